@@ -1,0 +1,10 @@
+use mathlib.Core.Path.{refl}
+use Rattle.words.specs.Cut.{cut-to}
+use Rattle.sheet.specs.Scripts.{script}
+use Rattle.sheet.specs.Reading.{judge, read}
+use Rattle.sheet.specs.Values.{value-within, value}
+use Rattle.figures.proofs.figures.Needs as need
+
+pub returns : need.returns
+unfolding cut-to script judge read value-within value
+returns c = record { cuts = (refl, refl, refl); cells = (refl, refl, refl); worked = (refl, refl) }

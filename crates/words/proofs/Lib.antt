@@ -1,0 +1,5 @@
+mod Rests
+mod Signs
+mod Words
+pub mod Cuts
+pub mod Sizes
