@@ -6,12 +6,12 @@ use lib.IntN.{ℤ, pos, negsuc}
 use Rattle.std.specs.declared.result.Result.the-variants.{Ok, Err}
 use Rattle.widths.specs.Kinds.{cell-count}
 use Rattle.words.specs.Cut.{cut-to}
-use Rattle.sheet.specs.Graphs.{Graph, WellFormed}
-use Rattle.sheet.specs.Reading.{read}
-use Rattle.sheet.specs.Values.{output-values}
-use Rattle.sheet.specs.declared.Source.the-variants.{Input}
-use Rattle.sheet.specs.declared.Operand.{Operand}
-use Rattle.sheet.specs.declared.Operation.the-variants.{Add}
+use Rattle.graphs.specs.Graphs.{Graph, WellFormed}
+use Rattle.graphs.specs.Reading.{read}
+use Rattle.graphs.specs.Values.{output-values}
+use Rattle.graphs.specs.declared.Source.the-variants.{Input}
+use Rattle.graphs.specs.declared.Operand.{Operand}
+use Rattle.graphs.specs.declared.Operation.the-variants.{Add}
 
 abbrev pub Cuts : Type 0
 Cuts = (cut-to (negsuc 4) 1 3 ≡ negsuc 2) × (cut-to (pos 6) 0 3 ≡ negsuc 1) × (cut-to (pos (2 ^ 62)) 63 8 ≡ pos 0)

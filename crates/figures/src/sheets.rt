@@ -1,14 +1,14 @@
 // Sheets that are read, sheets that are refused, and the values of graphs.
+use faults::Fault;
+use faults::FaultDebug;
+use faults::FaultPartialEq;
+use faults::Place;
+use faults::PlaceDebug;
+use faults::PlacePartialEq;
 use sheet::Job;
 use std::alloc::AllocError;
 use std::alloc::Global;
 use std::test::*;
-use widths::Fault;
-use widths::FaultDebug;
-use widths::FaultPartialEq;
-use widths::Place;
-use widths::PlaceDebug;
-use widths::PlacePartialEq;
 
 // Two steps, two inputs of 8 bits, and their sum of 8 bits as the output.
 const WORKED: [u8; 15] = [

@@ -1,9 +1,9 @@
 // Kinds of units and the lines of faults.
+use faults::Fault;
+use faults::FaultDisplay;
 use std::test::*;
 use widths::Adder;
 use widths::AdderKind;
-use widths::Fault;
-use widths::FaultDisplay;
 use widths::Kind;
 use widths::Multiplier;
 use widths::MultiplierKind;

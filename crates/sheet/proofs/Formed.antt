@@ -5,7 +5,7 @@ use mathlib.Core.Bool.{true}
 use lib.ListN.{length, getD}
 use Rattle.std.specs.Of.Vec.{vec-items, vec-len}
 use Rattle.sheet.specs.declared.Job.{Job}
-use Rattle.sheet.specs.Graphs.{Graph, WellFormed, good-operation, no-operation}
+use Rattle.graphs.specs.Graphs.{Graph, WellFormed, good-operation, no-operation}
 use Rattle.sheet.specs.Jobs.{graph-of}
 
 pub formed : (j : Job) → WellFormed (graph-of j)

@@ -1,9 +1,2 @@
-pub mod Scripts
 pub mod Steps
-pub mod Taken
-pub mod Exact
-pub mod Every
-pub mod Refused
-pub mod Laws
-pub mod Valued
 pub mod Formed

@@ -12,15 +12,16 @@ use Rattle.std.specs.declared.option.Option.{Option}
 use Rattle.std.specs.declared.option.Option.the-variants.{Some, None}
 use Rattle.std.specs.declared.result.Result.{Result}
 use Rattle.std.specs.declared.result.Result.the-variants.{Ok, Err}
-use Rattle.widths.specs.declared.faults.Fault.{Fault}
-use Rattle.widths.specs.declared.faults.Fault.the-variants.{UnknownCommand, CutShort, OutOfOrder, OutOfMemory}
-use Rattle.sheet.specs.declared.reader.Command.{Command}
-use Rattle.sheet.specs.declared.reader.Command.the-variants as command
-use Rattle.sheet.specs.Graphs.{Graph}
-use Rattle.sheet.specs.Scripts.{Script, ends, unknown, short, next, begun, script}
-use Rattle.sheet.specs.Commands.{operands, command-of, sheet-format}
-use Rattle.sheet.specs.Reading.{Sofar, in-order, cause, after, answer, continue, judge, verdict-from, whole-graph, nothing-read, read, Told, Kept, Takes, Goes}
-use Rattle.sheet.proofs.Scripts.{reads-unknown, reads-short, reads-command}
+use Rattle.faults.specs.declared.Fault.{Fault}
+use Rattle.faults.specs.declared.Fault.the-variants.{UnknownCommand, CutShort, OutOfOrder, OutOfMemory}
+use Rattle.graphs.specs.declared.Command.{Command}
+use Rattle.graphs.specs.declared.Command.the-variants as command
+use Rattle.graphs.specs.Graphs.{Graph}
+use Rattle.graphs.specs.Scripts.{Script, ends, unknown, short, next, begun, script}
+use Rattle.graphs.specs.Commands.{operands, command-of, sheet-format}
+use Rattle.graphs.specs.Reading.{Sofar, in-order, cause, after, continue, judge, whole-graph, nothing-read, read}
+use Rattle.sheet.specs.Drafts.{answer, verdict-from, Told, Kept, Takes, Goes}
+use Rattle.graphs.proofs.Scripts.{reads-unknown, reads-short, reads-command}
 
 pub no-cause : (o : Option Fault) (x : Unit {0}) → Ok x ≡ answer o → o ≡ None
 no-cause None x e = refl

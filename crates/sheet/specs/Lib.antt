@@ -1,8 +1,2 @@
-pub mod Graphs
 pub mod Jobs
-pub mod Scripts
-pub mod Commands
-pub mod Reading
-pub mod Writing
-pub mod Law
-pub mod Values
+pub mod Drafts

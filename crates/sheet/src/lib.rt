@@ -7,32 +7,15 @@ ghost use mathlib.Core.Bool.{true};
 ghost use Prim.Native.Nat.{ℕ, _<_, _≤_};
 ghost use lib.ListN.{getD};
 ghost use Rattle.std.specs.Of.Vec.{vec-items, vec-len};
-ghost use Rattle.sheet.specs.Graphs.{good-operation, no-operation};
+ghost use Rattle.graphs.specs.Graphs.{good-operation, no-operation};
+pub use graphs::Operand;
+pub use graphs::Operation;
+pub use graphs::Source;
 
+mod commands;
 mod questions;
 mod reader;
 mod values;
-
-// Where an operand comes from: an input, or an operation before this one, by number.
-#[derive(Clone, Copy, PartialEq, Eq, Debug)]
-pub enum Source {
-    Input(u8),
-    Earlier(u8),
-}
-
-// What a port reads: a source, and how many of its low bits are dropped.
-#[derive(Clone, Copy, PartialEq, Eq, Debug)]
-pub struct Operand {
-    pub source: Source,
-    pub drop: u8,
-}
-
-// An addition on two ports of p bits, or a multiplication on ports of p and q bits.
-#[derive(Clone, Copy, PartialEq, Eq, Debug)]
-pub enum Operation {
-    Add(u8, Operand, Operand),
-    Multiply(u8, u8, Operand, Operand),
-}
 
 // A well-formed sequencing graph: the limit in steps, the widths of the inputs, the operations in their order,
 // and for each output the number of its operation.

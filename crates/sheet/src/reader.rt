@@ -1,58 +1,25 @@
 // Reading a sheet from its bytes.
 ghost use mathlib.Core.Path.{_≡_};
-ghost use mathlib.Core.Bool.{Bool};
-ghost use Prim.Native.Nat.{ℕ, _+_, _-_, _<_, _≤_};
-ghost use lib.Dec.{leb};
+ghost use Prim.Native.Nat.{_<_};
 ghost use lib.ListN.{length};
-ghost use Rattle.std.specs.declared.option.Option.the-variants.{Some, None};
-ghost use Rattle.sheet.specs.Commands.{operands, command-of, feed-at, source-range, source-of, operand-of};
-ghost use Rattle.sheet.specs.Reading.{sofar, in-order, has-room, in-range, feed-range, names-earlier, cause, after, answer, Kept, Takes, nothing-read, Goes, Reads-as, read, whole-graph};
-ghost use Rattle.sheet.specs.Graphs.{WellFormed, is-named};
+ghost use Rattle.graphs.specs.Graphs.{WellFormed, is-named};
+ghost use Rattle.graphs.specs.Law.{Reading-law};
+ghost use Rattle.graphs.specs.Reading.{in-order, has-room, names-earlier, cause, nothing-read, read, whole-graph};
+ghost use Rattle.sheet.specs.Drafts.{sofar, answer, Kept, Takes, Goes, Reads-as};
 ghost use Rattle.sheet.specs.Jobs.{graph-of};
-ghost use Rattle.sheet.specs.Law.{Reading-law};
 use super::Job;
-use super::Operand;
-use super::Operation;
-use super::Source;
+use super::commands::decoded;
+use super::commands::in_range;
+use super::commands::operand_count;
+use super::commands::operand_of;
+use super::commands::source_of;
+use faults::Fault;
+use faults::FaultFromAlloc;
+use faults::FaultFromRefused;
+use graphs::Command;
+use graphs::Operation;
+use graphs::Source;
 use std::alloc::Global;
-use widths::Adder;
-use widths::AdderKind;
-use widths::Fault;
-use widths::FaultFromAlloc;
-use widths::FaultFromRefused;
-use widths::Kind;
-use widths::Multiplier;
-use widths::MultiplierKind;
-
-const STEPS: u8 = 0x10;
-
-const INPUT: u8 = 0x11;
-
-const ADD: u8 = 0x12;
-
-const MULTIPLY: u8 = 0x13;
-
-const OUTPUT: u8 = 0x14;
-
-const END: u8 = 0x1F;
-
-// An operand as it is written: the source's byte and the drop.
-#[derive(Clone, Copy)]
-struct Feed {
-    source: u8,
-    drop: u8,
-}
-
-// A command as it is written, before it is judged.
-#[derive(Clone, Copy)]
-enum Command {
-    Steps(u8),
-    Input(u8),
-    Add(u8, Feed, Feed),
-    Multiply(u8, u8, Feed, Feed),
-    Output(u8),
-    End,
-}
 
 // What was read so far.
 #[derive(Drop)]
@@ -62,94 +29,6 @@ struct Draft {
     operations: Vec<Operation>,
     outputs: Vec<u8>,
     ended: bool,
-}
-
-fn operand_count(byte: u8) -> Option<usize>
-    ensures { λ r. ⌜ r ≡ operands byte ⌝ }
-{
-    match byte {
-        STEPS | INPUT | OUTPUT => Some(1),
-        ADD => Some(5),
-        MULTIPLY => Some(6),
-        END => Some(0),
-        _ => None,
-    }
-}
-
-fn is_source(byte: u8) -> bool
-    ensures { λ r. ⌜ r ≡ source-range byte ⌝ }
-{
-    byte <= 15 || 64 <= byte && byte <= 127
-}
-
-// The source of a byte in its range.
-fn source_of(byte: u8) -> Source
-    ensures { λ r. ⌜ r ≡ source-of byte ⌝ }
-{
-    if byte <= 15 {
-        Source::Input(byte)
-    } else {
-        Source::Earlier(byte.saturating_sub(64))
-    }
-}
-
-impl Feed {
-    fn at(rest: &[u8], i: usize) -> Feed
-        requires { ⌜ i + 1 < length (now rest) ⌝ }
-        ensures { λ r. ⌜ r ≡ feed-at (now (rest .entry)) i ⌝ }
-    {
-        Feed {
-            source: rest[i],
-            drop: rest[i + 1],
-        }
-    }
-
-    fn in_range(self) -> bool
-        ensures { λ r. ⌜ r ≡ feed-range self ⌝ }
-    {
-        is_source(self.source) && self.drop <= 63
-    }
-
-    fn operand(self) -> Operand
-        ensures { λ r. ⌜ r ≡ operand-of self ⌝ }
-    {
-        Operand {
-            source: source_of(self.source),
-            drop: self.drop,
-        }
-    }
-}
-
-impl Command {
-    // The command of a byte, with the operands at the front of `rest`.
-    fn decode(byte: u8, rest: &[u8], count: usize) -> Command
-        requires { ⌜ Some count ≡ operands byte ⌝ ∗ ⌜ count ≤ length (now rest) ⌝ }
-        ensures { λ r. ⌜ r ≡ command-of byte (now (rest .entry)) ⌝ }
-    {
-        match byte {
-            STEPS => Command::Steps(rest[0]),
-            INPUT => Command::Input(rest[0]),
-            ADD => Command::Add(rest[0], Feed::at(rest, 1), Feed::at(rest, 3)),
-            MULTIPLY => Command::Multiply(rest[0], rest[1], Feed::at(rest, 2), Feed::at(rest, 4)),
-            OUTPUT => Command::Output(rest[0]),
-            _ => Command::End,
-        }
-    }
-
-    fn in_range(self) -> bool
-        ensures { λ r. ⌜ r ≡ in-range self ⌝ }
-    {
-        match self {
-            Command::Steps(limit) => 1 <= limit && limit <= 64,
-            Command::Input(w) => 1 <= w && w <= 40,
-            Command::Add(p, a, b) => Adder::is_width(p) && a.in_range() && b.in_range(),
-            Command::Multiply(p, q, a, b) => Multiplier::is_width((p, q))
-                && a.in_range()
-                && b.in_range(),
-            Command::Output(s) => 64 <= s && s <= 127,
-            Command::End => true,
-        }
-    }
 }
 
 impl Draft {
@@ -225,7 +104,7 @@ impl Draft {
         if !self.has_room(command) {
             return Err(Fault::TooMany(at));
         }
-        if !command.in_range() {
+        if !in_range(command) {
             return Err(Fault::OutOfRange(at));
         }
         if !self.names_earlier(command) {
@@ -241,9 +120,9 @@ impl Draft {
             Command::Steps(limit) => self.limit = Some(limit),
             Command::Input(w) => self.inputs.push(w)?,
             Command::Add(p, a, b) => self.operations
-                .push(Operation::Add(p, a.operand(), b.operand()))?,
+                .push(Operation::Add(p, operand_of(a), operand_of(b)))?,
             Command::Multiply(p, q, a, b) => self.operations
-                .push(Operation::Multiply(p, q, a.operand(), b.operand()))?,
+                .push(Operation::Multiply(p, q, operand_of(a), operand_of(b)))?,
             Command::Output(s) => self.outputs.push(s.saturating_sub(64))?,
             Command::End => self.ended = true,
         }
@@ -293,7 +172,7 @@ fn step(draft: &mut Draft, bytes: &[u8], at: usize) -> Result<usize, Fault>
     if rest.len() < count {
         return Err(Fault::CutShort(at));
     }
-    draft.take(Command::decode(byte, rest, count), at)?;
+    draft.take(decoded(byte, rest, count), at)?;
     Ok(at + 1 + count)
 }
 

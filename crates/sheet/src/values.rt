@@ -7,14 +7,14 @@ ghost use lib.IntN.{ℤ, pos, _+ℤ_, _*ℤ_};
 ghost use lib.ListN.{length, getD};
 ghost use lib.Signed.{mag};
 ghost use Rattle.words.specs.Cut.{cut-to};
-ghost use Rattle.sheet.specs.Graphs.{count, is-named, good-operand, good-operation};
+ghost use Rattle.graphs.specs.Graphs.{count, is-named, good-operand, good-operation};
 ghost use Rattle.sheet.specs.Jobs.{graph-of};
-ghost use Rattle.sheet.specs.Values.{source-value, operand-value, operation-value, room-answer, overwritten, written, operation-values, output-values, Values-law};
+ghost use Rattle.graphs.specs.Values.{source-value, operand-value, operation-value, room-answer, overwritten, written, operation-values, output-values, Values-law};
 use super::Job;
 use super::Operand;
 use super::Operation;
 use super::Source;
-use widths::Fault;
+use faults::Fault;
 use words::cut;
 
 // How much a call writes that wants so many samples and so much room.

@@ -5,6 +5,7 @@ mod show;
 
 use damage::DAMAGES;
 use damage::DamageDisplay;
+use faults::FaultDisplay;
 use sheet::Job;
 use show::Numbers;
 use show::NumbersDisplay;
@@ -12,7 +13,6 @@ use show::OperationDisplay;
 use show::Shown;
 use std::error::AnyError;
 use std::fs;
-use widths::FaultDisplay;
 
 fn main(rt: LibcRuntime) -> Result<(), AnyError> {
     rt.report(run(&rt))

@@ -2,7 +2,7 @@
 use Prim.Native.Nat.{ℕ, _*_}
 use mathlib.Core.Bool.{Bool, cond, _&&_}
 use lib.Dec.{eqb, leb}
-use Rattle.widths.specs.declared.kinds.Sides.{Sides}
+use Rattle.widths.specs.declared.Sides.{Sides}
 
 -- a width or a cell with these sides; the second is 0 where the kind has one side
 abbrev pub sides-of : ℕ → ℕ → Sides

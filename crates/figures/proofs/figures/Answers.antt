@@ -1,8 +1,8 @@
 use mathlib.Core.Path.{refl}
 use Rattle.words.specs.Cut.{cut-to}
-use Rattle.sheet.specs.Scripts.{script}
-use Rattle.sheet.specs.Reading.{judge, read}
-use Rattle.sheet.specs.Values.{value-within, value}
+use Rattle.graphs.specs.Scripts.{script}
+use Rattle.graphs.specs.Reading.{judge, read}
+use Rattle.graphs.specs.Values.{value-within, value}
 use Rattle.figures.proofs.figures.Needs as need
 
 pub returns : need.returns

@@ -3,9 +3,10 @@ use mathlib.Core.Logic.{inl, inr}
 use native.Mathlib.Omega.{arith}
 use Rattle.std.proofs.shelf.Results.{err-from-errBy}
 use Rattle.std.specs.declared.result.Result.the-variants.{Ok}
-use Rattle.sheet.specs.Reading.{sofar, whole-graph, verdict-from}
+use Rattle.graphs.specs.Reading.{whole-graph}
+use Rattle.sheet.specs.Drafts.{sofar, verdict-from}
 use Rattle.sheet.proofs.Steps.{verdict-start, read-told, read-open, read-whole}
-use Rattle.sheet.proofs.Laws.{reading-law}
+use Rattle.graphs.proofs.Laws.{reading-law}
 use Rattle.sheet.proofs.Job.read.Needs as need
 
 pub loop-at-holds : need.loop-at-holds

@@ -1,7 +1,8 @@
 use Prim.Native.Nat.{_-_, _≤_}
 use mathlib.Core.Path.{_≡_}
 use lib.ListN.{length}
-use Rattle.sheet.specs.Reading.{sofar, verdict-from, read}
+use Rattle.graphs.specs.Reading.{read}
+use Rattle.sheet.specs.Drafts.{sofar, verdict-from}
 use Rattle.sheet.proofs.Job.read.Given as given
 
 -- what stands behind the position decides what the sheet is read as

@@ -1,6 +1,6 @@
 use Rattle.sheet.specs.Jobs.{graph-of}
 use Rattle.sheet.proofs.Formed.{formed}
-use Rattle.sheet.proofs.Valued.{values-law}
+use Rattle.graphs.proofs.Valued.{values-law}
 use Rattle.sheet.proofs.Job.values_follow.Needs as need
 
 pub returns : need.returns

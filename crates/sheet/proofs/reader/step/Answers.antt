@@ -1,7 +1,7 @@
 use mathlib.Core.Path.{sym, _∙_}
 use mathlib.Core.Logic.{inl, inr}
 use Rattle.std.proofs.shelf.Results.{err-from-errBy}
-use Rattle.sheet.specs.Reading.{sofar}
+use Rattle.sheet.specs.Drafts.{sofar}
 use Rattle.sheet.proofs.Steps.{goes-ended, goes-unknown, goes-short, goes-refused, goes-taken}
 use Rattle.sheet.proofs.reader.step.Needs as need
 
@@ -20,8 +20,8 @@ pub returns-in-Break-take : need.returns-in-Break-take
 returns-in-Break-take c =
     let p = err-from-errBy (c .from-residual .result) (c .from-residual .ensures .1) in
     rw (p .1, p .2)
-    (goes-refused (c .args .bytes .now) (sofar (c .args .draft .now)) (c .args .at) (c .pre) (c .in-Some .count) (c .decode .result) (c .in-Break-take .field-0 .0) (sym (c .operand-count .ensures) ∙ c .in-Some .is) (c .if-rest-count .left) (c .decode .ensures) (c .in-Break-take .ensures tt))
+    (goes-refused (c .args .bytes .now) (sofar (c .args .draft .now)) (c .args .at) (c .pre) (c .in-Some .count) (c .decoded .result) (c .in-Break-take .field-0 .0) (sym (c .operand-count .ensures) ∙ c .in-Some .is) (c .if-rest-count .left) (c .decoded .ensures) (c .in-Break-take .ensures tt))
 
 pub returns : need.returns
 returns c =
-    goes-taken (c .args .bytes .now) (sofar (c .args .draft .now)) (c .args .at) (c .pre) (c .in-Some .count) (c .decode .result) (sofar (c .take .last .self)) (sym (c .operand-count .ensures) ∙ c .in-Some .is) (c .if-rest-count .left) (c .decode .ensures) (c .in-Continue-take .ensures tt)
+    goes-taken (c .args .bytes .now) (sofar (c .args .draft .now)) (c .args .at) (c .pre) (c .in-Some .count) (c .decoded .result) (sofar (c .take .last .self)) (sym (c .operand-count .ensures) ∙ c .in-Some .is) (c .if-rest-count .left) (c .decoded .ensures) (c .in-Continue-take .ensures tt)

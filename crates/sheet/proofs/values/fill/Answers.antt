@@ -3,9 +3,9 @@ use Prim.Native.Nat.{_≤_, _<_}
 use mathlib.Core.Path.{_≡_, sym, ap, _∙_}
 use lib.ListN.{length}
 use Rattle.sheet.specs.Jobs.{graph-of}
-use Rattle.sheet.specs.Values.{value}
+use Rattle.graphs.specs.Values.{value}
 use Rattle.sheet.proofs.Formed.{formed}
-use Rattle.sheet.proofs.Valued.{value-ready, value-more, value-all}
+use Rattle.graphs.proofs.Valued.{value-ready, value-more, value-all}
 use Rattle.sheet.proofs.values.fill.Needs as need
 
 pub operation-value-value-requires : need.operation-value-value-requires

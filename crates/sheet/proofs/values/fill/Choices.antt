@@ -4,7 +4,7 @@ use mathlib.Core.List.{map, _++_}
 use lib.ListN.{length, drop}
 use Rattle.std.specs.Iters.{counting}
 use Rattle.sheet.specs.Jobs.{graph-of}
-use Rattle.sheet.specs.Values.{value}
+use Rattle.graphs.specs.Values.{value}
 use Rattle.sheet.proofs.values.fill.Given as given
 
 -- the values so far stand at the front

@@ -3,9 +3,9 @@ use mathlib.Core.List.{map}
 use lib.IntN.{pos}
 use lib.ListN.{getD}
 use Rattle.sheet.specs.Jobs.{graph-of}
-use Rattle.sheet.specs.Values.{overwritten}
+use Rattle.graphs.specs.Values.{overwritten}
 use Rattle.sheet.proofs.Formed.{formed}
-use Rattle.sheet.proofs.Valued.{outputs-are}
+use Rattle.graphs.proofs.Valued.{outputs-are}
 use Rattle.sheet.proofs.values.fill_outputs.Needs as need
 
 pub returns : need.returns

@@ -4,8 +4,8 @@ use native.Mathlib.Omega.{arith}
 use lib.ListN.{length}
 use Rattle.std.proofs.shelf.Tests.{and-parts}
 use Rattle.widths.specs.Kinds.{valid, sides-of}
-use Rattle.sheet.specs.Graphs.{good-operation}
-use Rattle.sheet.proofs.Valued.{port-small, adder-ports, multiplier-ports}
+use Rattle.graphs.specs.Graphs.{good-operation}
+use Rattle.graphs.proofs.Valued.{port-small, adder-ports, multiplier-ports}
 use Rattle.sheet.proofs.values.operation_value.Needs as need
 
 pub added-requires : need.added-requires

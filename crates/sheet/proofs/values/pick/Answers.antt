@@ -5,7 +5,7 @@ use lib.ListN.{getD}
 use mir.Val.{SFits}
 use mir.Syntax.{w64}
 use Rattle.std.proofs.shelf.Signed.{toZ-ofZ}
-use Rattle.sheet.proofs.Valued.{pick-more, pick-all}
+use Rattle.graphs.proofs.Valued.{pick-more, pick-all}
 use Rattle.sheet.proofs.values.pick.Needs as need
 
 pub loop-k-again : need.loop-k-again

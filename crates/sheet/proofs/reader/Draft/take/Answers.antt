@@ -1,6 +1,6 @@
 use mathlib.Core.Logic.{inr}
 use Rattle.std.proofs.shelf.Results.{err-from-errBy}
-use Rattle.sheet.specs.Reading.{sofar}
+use Rattle.sheet.specs.Drafts.{sofar}
 use Rattle.sheet.proofs.Steps.{no-cause, some-cause, takes-kept}
 use Rattle.sheet.proofs.reader.Draft.take.Needs as need
 

@@ -2,11 +2,11 @@
 use Prim.Native.Nat.{ℕ, _+_}
 use mathlib.Core.List.{List, [], _∷_, _++_}
 use Rattle.std.specs.Joined.{joined}
-use Rattle.sheet.specs.declared.Source.{Source}
-use Rattle.sheet.specs.declared.Source.the-variants.{Input, Earlier}
-use Rattle.sheet.specs.declared.Operation.{Operation}
-use Rattle.sheet.specs.declared.Operation.the-variants.{Add, Multiply}
-use Rattle.sheet.specs.Graphs.{Graph}
+use Rattle.graphs.specs.declared.Source.{Source}
+use Rattle.graphs.specs.declared.Source.the-variants.{Input, Earlier}
+use Rattle.graphs.specs.declared.Operation.{Operation}
+use Rattle.graphs.specs.declared.Operation.the-variants.{Add, Multiply}
+use Rattle.graphs.specs.Graphs.{Graph}
 
 abbrev pub source-byte : Source → ℕ
 source-byte (Input i) = i

@@ -1,8 +1,10 @@
-// What a call answers when it refuses.
+// Faults: what every call of the product answers when it refuses.
+//
+// `Fault` has a case for each cause, with a number and a place; its `Display` is the line by which a program tells it.
 ghost use mathlib.Core.Path.{_≡_};
 ghost use Rattle.std.specs.declared.option.Option.the-variants.{Some};
-ghost use Rattle.widths.specs.declared.faults.Fault.the-variants.{OutOfMemory};
-ghost use Rattle.widths.specs.Faults.{number-of, place-of, line-of};
+ghost use Rattle.faults.specs.declared.Fault.the-variants.{OutOfMemory};
+ghost use Rattle.faults.specs.Faults.{number-of, place-of, line-of};
 use std::alloc::AllocError;
 use std::alloc::Refused;
 use std::fmt;

@@ -4,12 +4,12 @@ use mathlib.Core.Path.{_≡_}
 use mathlib.Core.List.{List}
 use lib.ListN.{length}
 use Rattle.std.specs.declared.result.Result.the-variants.{Ok, Err}
-use Rattle.widths.specs.Faults.{number-of, place-of}
-use Rattle.widths.specs.declared.faults.Fault.{Fault}
-use Rattle.widths.specs.declared.faults.Place.the-variants.{At}
-use Rattle.sheet.specs.Graphs.{Graph, WellFormed}
-use Rattle.sheet.specs.Reading.{read}
-use Rattle.sheet.specs.Writing.{write}
+use Rattle.faults.specs.Faults.{number-of, place-of}
+use Rattle.faults.specs.declared.Fault.{Fault}
+use Rattle.faults.specs.declared.Place.the-variants.{At}
+use Rattle.graphs.specs.Graphs.{Graph, WellFormed}
+use Rattle.graphs.specs.Reading.{read}
+use Rattle.graphs.specs.Writing.{write}
 
 -- a refusal by the rules of a sheet of so many bytes: a number from 1 to 6, at a position that is not past the length
 pub record Placed-fault (bytes : ℕ) (f : Fault) : Type 0 where

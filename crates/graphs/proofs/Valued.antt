@@ -18,13 +18,13 @@ use Rattle.std.proofs.shelf.Tests.{and-parts, and-from, ltb-true, leb-true, lt-
 use Rattle.widths.specs.Kinds.{valid, sides-of}
 use Rattle.words.specs.Cut.{cut-to}
 use Rattle.words.proofs.Sizes.{cut-size}
-use Rattle.sheet.specs.declared.Source.{Source}
-use Rattle.sheet.specs.declared.Source.the-variants.{Input, Earlier}
-use Rattle.sheet.specs.declared.Operand.{Operand}
-use Rattle.sheet.specs.declared.Operation.{Operation}
-use Rattle.sheet.specs.declared.Operation.the-variants.{Add, Multiply}
-use Rattle.sheet.specs.Graphs.{Graph, WellFormed, is-named, good-operand, good-operation, operation-at, no-operation, count}
-use Rattle.sheet.specs.Values.{source-value, operand-value, operation-value, value-within, value, operation-values, output-values, overwritten, Values-law}
+use Rattle.graphs.specs.declared.Source.{Source}
+use Rattle.graphs.specs.declared.Source.the-variants.{Input, Earlier}
+use Rattle.graphs.specs.declared.Operand.{Operand}
+use Rattle.graphs.specs.declared.Operation.{Operation}
+use Rattle.graphs.specs.declared.Operation.the-variants.{Add, Multiply}
+use Rattle.graphs.specs.Graphs.{Graph, WellFormed, is-named, good-operand, good-operation, operation-at, no-operation, count}
+use Rattle.graphs.specs.Values.{source-value, operand-value, operation-value, value-within, value, operation-values, output-values, overwritten, Values-law}
 
 module _ (widths : List ℕ) (xs : List ℤ) (V W : ℕ → ℤ) (o : ℕ) (same : (e : ℕ) → e < o → V e ≡ W e) where
   source-same : (n : ℕ) (x : Source) → is-named n o x ≡ true → source-value widths xs V x ≡ source-value widths xs W x

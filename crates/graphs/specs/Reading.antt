@@ -1,31 +1,25 @@
 -- Reading a sheet: the commands are judged one after the other by what was read before.
-use Prim.Native.Nat.{ℕ, _+_, _-_, _<_, _≤_}
-use mathlib.Core.Path.{_≡_}
+use Prim.Native.Nat.{ℕ, _+_, _-_}
 use mathlib.Core.Bool.{Bool, true, false, cond, _&&_, not}
 use mathlib.Core.List.{List, [], _∷_, _++_}
-use mathlib.Core.Logic.{_⊎_}
 use lib.Dec.{eqb, leb, ltb}
-use lib.ListN.{length, drop}
+use lib.ListN.{length}
 use Rattle.std.specs.Options.{isSome, valueOr}
-use Rattle.std.specs.Of.Vec.{vec-items}
 use Rattle.std.specs.declared.option.Option.{Option}
 use Rattle.std.specs.declared.option.Option.the-variants.{Some, None}
 use Rattle.std.specs.declared.result.Result.{Result}
 use Rattle.std.specs.declared.result.Result.the-variants.{Ok, Err}
 use Rattle.widths.specs.Kinds.{sides-of, valid}
-use Rattle.widths.specs.declared.faults.Fault.{Fault}
-use Rattle.widths.specs.declared.faults.Fault.the-variants.{UnknownCommand, CutShort, OutOfOrder, TooMany, OutOfRange, NamesNothing, OutOfMemory}
-use Rattle.sheet.specs.declared.Operation.{Operation}
-use Rattle.sheet.specs.declared.Operation.the-variants.{Add, Multiply}
-use Rattle.sheet.specs.declared.reader.Feed.{Feed}
-use Rattle.sheet.specs.declared.reader.Draft.{Draft}
-use Rattle.sheet.specs.declared.reader.Command.{Command}
-use Rattle.sheet.specs.declared.reader.Command.the-variants as command
-use Rattle.sheet.specs.declared.Job.{Job}
-use Rattle.sheet.specs.Graphs.{Graph, is-named}
-use Rattle.sheet.specs.Jobs.{graph-of}
-use Rattle.sheet.specs.Scripts.{Script, ends, unknown, short, next, script}
-use Rattle.sheet.specs.Commands.{sheet-format, source-range, source-of, operand-of}
+use Rattle.faults.specs.declared.Fault.{Fault}
+use Rattle.faults.specs.declared.Fault.the-variants.{UnknownCommand, CutShort, OutOfOrder, TooMany, OutOfRange, NamesNothing}
+use Rattle.graphs.specs.declared.Operation.{Operation}
+use Rattle.graphs.specs.declared.Operation.the-variants.{Add, Multiply}
+use Rattle.graphs.specs.declared.Feed.{Feed}
+use Rattle.graphs.specs.declared.Command.{Command}
+use Rattle.graphs.specs.declared.Command.the-variants as command
+use Rattle.graphs.specs.Graphs.{Graph, is-named}
+use Rattle.graphs.specs.Scripts.{Script, ends, unknown, short, next, script}
+use Rattle.graphs.specs.Commands.{sheet-format, source-range, source-of, operand-of}
 
 -- what was read so far
 pub record Sofar : Type 0 where
@@ -117,40 +111,3 @@ judge d at (next c n r) = continue (cause d at c) (judge (after d c) (at + n) r)
 -- the graph that a string of bytes is read as, or the refusal
 unfoldable pub read : List ℕ → Result Graph Fault
 read bs = judge nothing-read 0 (script sheet-format 0 bs)
-
--- a call told f, where the rules say o: the rules' own refusal, or want of memory
-abbrev pub Told : Option Fault → Fault → Type 0
-Told o f = (f ≡ OutOfMemory) ⊎ (o ≡ Some f)
-
--- what the code holds while it reads
-abbrev pub sofar : Draft → Sofar
-sofar d = record { limit = d .limit; inputs = vec-items (d .inputs); operations = vec-items (d .operations); outputs = vec-items (d .outputs); ended = d .ended }
-
--- the answer of a call that meets this cause, or none
-abbrev pub answer : Option Fault → Result (Unit {0}) Fault
-answer None = Ok tt
-answer (Some f) = Err f
-
--- a command was added to what was read, or there was no memory for it
-abbrev pub Kept : Sofar → Command → Sofar → Result (Unit {0}) Fault → Type 0
-Kept d c e (Ok x) = e ≡ after d c
-Kept d c e (Err f) = f ≡ OutOfMemory
-
--- a command at a position was taken, or refused, between two states
-abbrev pub Takes : Sofar → ℕ → Command → Sofar → Result (Unit {0}) Fault → Type 0
-Takes d at c e (Ok x) = (cause d at c ≡ None) × (e ≡ after d c)
-Takes d at c e (Err f) = Told (cause d at c) f
-
--- what the rules say of the bytes from a position on
-abbrev pub verdict-from : List ℕ → Sofar → ℕ → Result Graph Fault
-verdict-from bs d p = judge d p (script sheet-format 0 (drop p bs))
-
--- one command behind the position p: what stands behind it decides as before, or the refusal is the sheet's
-abbrev pub Goes : List ℕ → Sofar → ℕ → Sofar → Result ℕ Fault → Type 0
-Goes bs d p e (Ok q) = (p < q) × (q ≤ length bs) × (verdict-from bs d p ≡ verdict-from bs e q)
-Goes bs d p e (Err f) = (f ≡ OutOfMemory) ⊎ (verdict-from bs d p ≡ Err f)
-
--- the call's answer is what the rules say, or want of memory
-abbrev pub Reads-as : Result Graph Fault → Result Job Fault → Type 0
-Reads-as said (Ok j) = said ≡ Ok (graph-of j)
-Reads-as said (Err f) = (f ≡ OutOfMemory) ⊎ (said ≡ Err f)

@@ -3,10 +3,10 @@ use Prim.Native.Nat.{ℕ}
 use mathlib.Core.List.{List, _++_}
 use lib.Chars.{codes}
 use Rattle.std.specs.Written.{decimal}
-use Rattle.widths.specs.declared.faults.Fault.{Fault}
-use Rattle.widths.specs.declared.faults.Fault.the-variants.{UnknownCommand, CutShort, OutOfOrder, TooMany, OutOfRange, NamesNothing, FaultyList, BufferTooShort, SampleCount, OutOfMemory}
-use Rattle.widths.specs.declared.faults.Place.{Place}
-use Rattle.widths.specs.declared.faults.Place.the-variants.{At, Row}
+use Rattle.faults.specs.declared.Fault.{Fault}
+use Rattle.faults.specs.declared.Fault.the-variants.{UnknownCommand, CutShort, OutOfOrder, TooMany, OutOfRange, NamesNothing, FaultyList, BufferTooShort, SampleCount, OutOfMemory}
+use Rattle.faults.specs.declared.Place.{Place}
+use Rattle.faults.specs.declared.Place.the-variants.{At, Row}
 
 abbrev pub number-of : Fault → ℕ
 number-of OutOfMemory = 0

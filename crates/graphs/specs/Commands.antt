@@ -6,13 +6,13 @@ use lib.Dec.{eqb, leb}
 use lib.ListN.{getD}
 use Rattle.std.specs.declared.option.Option.{Option}
 use Rattle.std.specs.declared.option.Option.the-variants.{Some, None}
-use Rattle.sheet.specs.declared.Source.{Source}
-use Rattle.sheet.specs.declared.Source.the-variants.{Input, Earlier}
-use Rattle.sheet.specs.declared.Operand.{Operand}
-use Rattle.sheet.specs.declared.reader.Feed.{Feed}
-use Rattle.sheet.specs.declared.reader.Command.{Command}
-use Rattle.sheet.specs.declared.reader.Command.the-variants as command
-use Rattle.sheet.specs.Scripts.{Format}
+use Rattle.graphs.specs.declared.Source.{Source}
+use Rattle.graphs.specs.declared.Source.the-variants.{Input, Earlier}
+use Rattle.graphs.specs.declared.Operand.{Operand}
+use Rattle.graphs.specs.declared.Feed.{Feed}
+use Rattle.graphs.specs.declared.Command.{Command}
+use Rattle.graphs.specs.declared.Command.the-variants as command
+use Rattle.graphs.specs.Scripts.{Format}
 
 -- how many operands the command of a byte has
 abbrev pub operands : ℕ → Option ℕ

@@ -12,20 +12,20 @@ use Rattle.std.specs.Joined.{joined}
 use Rattle.std.specs.declared.option.Option.the-variants.{Some, None}
 use Rattle.std.specs.declared.result.Result.the-variants.{Ok, Err}
 use Rattle.widths.specs.Kinds.{valid, sides-of}
-use Rattle.sheet.specs.declared.Source.{Source}
-use Rattle.sheet.specs.declared.Operand.{Operand}
-use Rattle.sheet.specs.declared.Operation.{Operation}
-use Rattle.sheet.specs.declared.Operation.the-variants.{Add, Multiply}
-use Rattle.sheet.specs.declared.reader.Feed.{Feed}
-use Rattle.sheet.specs.declared.reader.Command.{Command}
-use Rattle.sheet.specs.declared.reader.Command.the-variants as command
-use Rattle.sheet.specs.Graphs.{Graph, WellFormed, good-operation, good-operand, is-named, no-operation}
-use Rattle.sheet.specs.Scripts.{script, next}
-use Rattle.sheet.specs.Commands.{operands, command-of, sheet-format, source-of, operand-of}
-use Rattle.sheet.specs.Reading.{Sofar, nothing-read, is-empty, feed-range, cause, after, continue, judge, read}
-use Rattle.sheet.specs.Writing.{source-byte, input-bytes, operation-bytes, output-bytes, write}
-use Rattle.sheet.proofs.Scripts.{begun-whole}
-use Rattle.sheet.proofs.Taken.{Passes, no-cause-since, command-bytes, byte-range, source-back}
+use Rattle.graphs.specs.declared.Source.{Source}
+use Rattle.graphs.specs.declared.Operand.{Operand}
+use Rattle.graphs.specs.declared.Operation.{Operation}
+use Rattle.graphs.specs.declared.Operation.the-variants.{Add, Multiply}
+use Rattle.graphs.specs.declared.Feed.{Feed}
+use Rattle.graphs.specs.declared.Command.{Command}
+use Rattle.graphs.specs.declared.Command.the-variants as command
+use Rattle.graphs.specs.Graphs.{Graph, WellFormed, good-operation, good-operand, is-named, no-operation}
+use Rattle.graphs.specs.Scripts.{script, next}
+use Rattle.graphs.specs.Commands.{operands, command-of, sheet-format, source-of, operand-of}
+use Rattle.graphs.specs.Reading.{Sofar, nothing-read, is-empty, feed-range, cause, after, continue, judge, read}
+use Rattle.graphs.specs.Writing.{source-byte, input-bytes, operation-bytes, output-bytes, write}
+use Rattle.graphs.proofs.Scripts.{begun-whole}
+use Rattle.graphs.proofs.Taken.{Passes, no-cause-since, command-bytes, byte-range, source-back}
 
 -- from the state d on, whatever the position, the bytes are read as G
 Reads : Sofar → List ℕ → Graph → Type 0

@@ -1,6 +1,6 @@
 use borrow.Author.Needs.{needs}
 use Rattle.widths.specs.Kinds.{covers}
-use Rattle.widths.proofs.kinds.Sides.covers.Needs as need
+use Rattle.widths.proofs.Sides.covers.Needs as need
 
 pub returns-then-no-larger : need.returns-then-no-larger
 unfolding covers

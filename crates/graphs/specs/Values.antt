@@ -9,15 +9,15 @@ use lib.ListN.{length, getD, drop}
 use Rattle.std.specs.Iters.{counting}
 use Rattle.std.specs.declared.result.Result.{Result}
 use Rattle.std.specs.declared.result.Result.the-variants.{Ok, Err}
-use Rattle.widths.specs.declared.faults.Fault.{Fault}
-use Rattle.widths.specs.declared.faults.Fault.the-variants.{BufferTooShort, SampleCount}
+use Rattle.faults.specs.declared.Fault.{Fault}
+use Rattle.faults.specs.declared.Fault.the-variants.{BufferTooShort, SampleCount}
 use Rattle.words.specs.Cut.{cut-to}
-use Rattle.sheet.specs.declared.Source.{Source}
-use Rattle.sheet.specs.declared.Source.the-variants.{Input, Earlier}
-use Rattle.sheet.specs.declared.Operand.{Operand}
-use Rattle.sheet.specs.declared.Operation.{Operation}
-use Rattle.sheet.specs.declared.Operation.the-variants.{Add, Multiply}
-use Rattle.sheet.specs.Graphs.{Graph, WellFormed, operation-at, count}
+use Rattle.graphs.specs.declared.Source.{Source}
+use Rattle.graphs.specs.declared.Source.the-variants.{Input, Earlier}
+use Rattle.graphs.specs.declared.Operand.{Operand}
+use Rattle.graphs.specs.declared.Operation.{Operation}
+use Rattle.graphs.specs.declared.Operation.the-variants.{Add, Multiply}
+use Rattle.graphs.specs.Graphs.{Graph, WellFormed, operation-at, count}
 
 -- an input's sample cut to the input's width
 abbrev pub input-value : List ℕ → List ℤ → ℕ → ℤ

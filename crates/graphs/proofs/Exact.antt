@@ -15,21 +15,21 @@ use Rattle.std.specs.declared.option.Option.{Option}
 use Rattle.std.specs.declared.option.Option.the-variants.{Some, None}
 use Rattle.std.specs.declared.result.Result.{Result}
 use Rattle.std.specs.declared.result.Result.the-variants.{Ok, Err}
-use Rattle.widths.specs.declared.faults.Fault.{Fault}
-use Rattle.widths.specs.declared.faults.Fault.the-variants.{CutShort}
+use Rattle.faults.specs.declared.Fault.{Fault}
+use Rattle.faults.specs.declared.Fault.the-variants.{CutShort}
 use Rattle.widths.specs.Kinds.{valid, sides-of}
-use Rattle.sheet.specs.declared.Operation.{Operation}
-use Rattle.sheet.specs.declared.Operation.the-variants.{Add, Multiply}
-use Rattle.sheet.specs.declared.reader.Feed.{Feed}
-use Rattle.sheet.specs.declared.reader.Command.{Command}
-use Rattle.sheet.specs.declared.reader.Command.the-variants as command
-use Rattle.sheet.specs.Graphs.{Graph, WellFormed, good-operation, good-operand, is-named, no-operation}
-use Rattle.sheet.specs.Scripts.{script, begun, next}
-use Rattle.sheet.specs.Commands.{operands, command-of, sheet-format, source-of, source-range, operand-of}
-use Rattle.sheet.specs.Reading.{Sofar, nothing-read, is-empty, feed-range, cause, after, whole-graph, continue, judge, read}
-use Rattle.sheet.specs.Writing.{input-bytes, operation-bytes, output-bytes, write}
-use Rattle.sheet.proofs.Scripts.{begun-short, begun-whole}
-use Rattle.sheet.proofs.Taken.{Passes, passes, command-bytes, byte-source, decoded}
+use Rattle.graphs.specs.declared.Operation.{Operation}
+use Rattle.graphs.specs.declared.Operation.the-variants.{Add, Multiply}
+use Rattle.graphs.specs.declared.Feed.{Feed}
+use Rattle.graphs.specs.declared.Command.{Command}
+use Rattle.graphs.specs.declared.Command.the-variants as command
+use Rattle.graphs.specs.Graphs.{Graph, WellFormed, good-operation, good-operand, is-named, no-operation}
+use Rattle.graphs.specs.Scripts.{script, begun, next}
+use Rattle.graphs.specs.Commands.{operands, command-of, sheet-format, source-of, source-range, operand-of}
+use Rattle.graphs.specs.Reading.{Sofar, nothing-read, is-empty, feed-range, cause, after, whole-graph, continue, judge, read}
+use Rattle.graphs.specs.Writing.{input-bytes, operation-bytes, output-bytes, write}
+use Rattle.graphs.proofs.Scripts.{begun-short, begun-whole}
+use Rattle.graphs.proofs.Taken.{Passes, passes, command-bytes, byte-source, decoded}
 
 -- what was read so far is the front of a well-formed graph
 pub record Good (d : Sofar) : Type 0 where

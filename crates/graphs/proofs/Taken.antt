@@ -10,17 +10,17 @@ use lib.ListN.{length, getD, drop}
 use Rattle.std.proofs.shelf.Tests.{cases-bool, eqb-true, cond-true, cond-false, cond-both, leb-true, leb-false, or-cases, or-left, or-right, and-parts, and-from, ltb-true, lt-leb, le-leb}
 use Rattle.std.specs.declared.option.Option.{Option}
 use Rattle.std.specs.declared.option.Option.the-variants.{Some, None}
-use Rattle.widths.specs.declared.faults.Fault.{Fault}
-use Rattle.sheet.specs.declared.Source.{Source}
-use Rattle.sheet.specs.declared.Source.the-variants.{Input, Earlier}
-use Rattle.sheet.specs.declared.Operand.{Operand}
-use Rattle.sheet.specs.declared.reader.Feed.{Feed}
-use Rattle.sheet.specs.declared.reader.Command.{Command}
-use Rattle.sheet.specs.declared.reader.Command.the-variants as command
-use Rattle.sheet.specs.Graphs.{is-named}
-use Rattle.sheet.specs.Commands.{operands, command-of, source-range, source-of, operand-of}
-use Rattle.sheet.specs.Reading.{Sofar, in-order, has-room, in-range, names-earlier, cause}
-use Rattle.sheet.specs.Writing.{source-byte}
+use Rattle.faults.specs.declared.Fault.{Fault}
+use Rattle.graphs.specs.declared.Source.{Source}
+use Rattle.graphs.specs.declared.Source.the-variants.{Input, Earlier}
+use Rattle.graphs.specs.declared.Operand.{Operand}
+use Rattle.graphs.specs.declared.Feed.{Feed}
+use Rattle.graphs.specs.declared.Command.{Command}
+use Rattle.graphs.specs.declared.Command.the-variants as command
+use Rattle.graphs.specs.Graphs.{is-named}
+use Rattle.graphs.specs.Commands.{operands, command-of, source-range, source-of, operand-of}
+use Rattle.graphs.specs.Reading.{Sofar, in-order, has-room, in-range, names-earlier, cause}
+use Rattle.graphs.specs.Writing.{source-byte}
 
 pub record Passes (d : Sofar) (c : Command) : Type 0 where
   pub order : in-order d c ≡ true

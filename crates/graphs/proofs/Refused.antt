@@ -11,15 +11,15 @@ use Rattle.std.specs.declared.option.Option.{Option}
 use Rattle.std.specs.declared.option.Option.the-variants.{Some, None}
 use Rattle.std.specs.declared.result.Result.{Result}
 use Rattle.std.specs.declared.result.Result.the-variants.{Ok, Err}
-use Rattle.widths.specs.declared.faults.Fault.{Fault}
-use Rattle.widths.specs.declared.faults.Fault.the-variants.{UnknownCommand, CutShort, OutOfOrder, TooMany, OutOfRange, NamesNothing}
-use Rattle.sheet.specs.declared.reader.Command.{Command}
-use Rattle.sheet.specs.Graphs.{Graph}
-use Rattle.sheet.specs.Scripts.{script, begun}
-use Rattle.sheet.specs.Commands.{operands, command-of, sheet-format}
-use Rattle.sheet.specs.Reading.{Sofar, nothing-read, in-order, has-room, in-range, names-earlier, cause, after, whole-graph, continue, judge, read}
-use Rattle.sheet.specs.Law.{Placed-fault}
-use Rattle.sheet.proofs.Scripts.{begun-short, begun-whole}
+use Rattle.faults.specs.declared.Fault.{Fault}
+use Rattle.faults.specs.declared.Fault.the-variants.{UnknownCommand, CutShort, OutOfOrder, TooMany, OutOfRange, NamesNothing}
+use Rattle.graphs.specs.declared.Command.{Command}
+use Rattle.graphs.specs.Graphs.{Graph}
+use Rattle.graphs.specs.Scripts.{script, begun}
+use Rattle.graphs.specs.Commands.{operands, command-of, sheet-format}
+use Rattle.graphs.specs.Reading.{Sofar, nothing-read, in-order, has-room, in-range, names-earlier, cause, after, whole-graph, continue, judge, read}
+use Rattle.graphs.specs.Law.{Placed-fault}
+use Rattle.graphs.proofs.Scripts.{begun-short, begun-whole}
 
 abbrev refusal : Fault → Result Graph Fault
 refusal f = Err f

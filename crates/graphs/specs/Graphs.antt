@@ -5,13 +5,13 @@ use mathlib.Core.Bool.{Bool, true, _&&_}
 use mathlib.Core.List.{List}
 use lib.Dec.{leb, ltb}
 use lib.ListN.{length, getD}
-use Rattle.widths.specs.declared.kinds.Sides.{Sides}
+use Rattle.widths.specs.declared.Sides.{Sides}
 use Rattle.widths.specs.Kinds.{sides-of, valid}
-use Rattle.sheet.specs.declared.Source.{Source}
-use Rattle.sheet.specs.declared.Source.the-variants.{Input, Earlier}
-use Rattle.sheet.specs.declared.Operand.{Operand}
-use Rattle.sheet.specs.declared.Operation.{Operation}
-use Rattle.sheet.specs.declared.Operation.the-variants.{Add, Multiply}
+use Rattle.graphs.specs.declared.Source.{Source}
+use Rattle.graphs.specs.declared.Source.the-variants.{Input, Earlier}
+use Rattle.graphs.specs.declared.Operand.{Operand}
+use Rattle.graphs.specs.declared.Operation.{Operation}
+use Rattle.graphs.specs.declared.Operation.the-variants.{Add, Multiply}
 
 -- the limit in steps, the inputs' widths, the operations in their order, and the operation that each output names
 pub record Graph : Type 0 where

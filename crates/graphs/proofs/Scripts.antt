@@ -10,7 +10,7 @@ use Rattle.std.proofs.shelf.Lists.{at-drop-more, drop-drop, length-drop}
 use Rattle.std.proofs.shelf.Tests.{le-leb, lt-leb}
 use Rattle.std.specs.declared.option.Option.{Option}
 use Rattle.std.specs.declared.option.Option.the-variants.{Some, None}
-use Rattle.sheet.specs.Scripts.{Format, Script, ends, unknown, short, next, begun, script}
+use Rattle.graphs.specs.Scripts.{Format, Script, ends, unknown, short, next, begun, script}
 
 -- passing over operands
 pub script-skip : {A : Type 0} (F : Format A) (k : ℕ) (bs : List ℕ) → k ≤ length bs → script F k bs ≡ script F 0 (drop k bs)
