@@ -150,6 +150,69 @@ class Values:
         return cut((self.inputs if kind == "input" else self.operations)[number], drop, width)
 
 
+# --- price lists ---------------------------------------------------------------------------
+# A list has a charge for each cell and a latency for each width of an adder or a multiplier. A width is a tuple of its
+# sides, and so is a cell. The charge of a width is the sum over the cells under it, and nothing below takes a short cut.
+
+
+class Formula:
+    def __init__(self, adder, register):
+        self.rates = {"adder": adder, "multiplier": 1, "register": register}
+
+    def cell(self, kind, cell):
+        return self.rates[kind]
+
+    def steps(self, kind, width):
+        return 2 if kind == "adder" else math.ceil(sum(width) / 8)
+
+
+class Table:
+    """The same charge for each adder cell, each cell (i, 1) and each register cell; latencies by the first side."""
+
+    def __init__(self, adder, multiplier, register, adder_steps, multiplier_steps):
+        self.charges = {"adder": adder, "multiplier": multiplier, "register": register}
+        self.latencies = {"adder": adder_steps, "multiplier": multiplier_steps}
+
+    def cell(self, kind, cell):
+        return self.charges[kind] if len(cell) == 1 or cell[1] == 1 else 0
+
+    def steps(self, kind, width):
+        return self.latencies[kind][width[0] - 1]
+
+
+class Grain:
+    def __init__(self, below, grain):
+        self.below, self.grain = below, grain
+
+    def cell(self, kind, cell):
+        if any((side - 1) % self.grain for side in cell):
+            return 0
+        block = itertools.product(*(range(side, side + self.grain) for side in cell))
+        return sum(self.below.cell(kind, c) for c in block)
+
+    def steps(self, kind, width):
+        return self.below.steps(kind, width)
+
+
+class Wait:
+    def __init__(self, below, wait):
+        self.below, self.wait = below, wait
+
+    def cell(self, kind, cell):
+        return self.below.cell(kind, cell)
+
+    def steps(self, kind, width):
+        return min(self.below.steps(kind, width) + self.wait, 255)
+
+
+def charge(prices, kind, width):
+    return sum(prices.cell(kind, cell) for cell in itertools.product(*(range(1, side + 1) for side in width)))
+
+
+FORMULA = Formula(3, 1)
+TABLE = Table(7, 96, 5, [1] * 16 + [2] * 16 + [3] * 8, [2] * 8 + [3] * 8 + [4] * 8 + [5] * 8 + [6] * 8)
+
+
 # --- what is printed -----------------------------------------------------------------------
 
 
@@ -163,6 +226,16 @@ def show_graph(graph):
     for k, o in enumerate(graph.outputs):
         print(f"  OUTPUT {k}: operation {o}")
     print("  END")
+
+
+def show_prices(title, prices, graph):
+    """What each operation's own width and the register of its value cost, and how many steps it takes."""
+    print(f"  {title}")
+    for o, (name, ports, _) in enumerate(graph.operations):
+        kind = "multiplier" if name == "MULTIPLY" else "adder"
+        unit = charge(prices, kind, tuple(ports))
+        register = charge(prices, "register", (sum(ports),))
+        print(f"    operation {o}: unit {unit} in {prices.steps(kind, tuple(ports))} steps, register {register}")
 
 
 def show_frame(number, samples, values):
@@ -181,6 +254,8 @@ def walk(folder, name):
     print(f"{name}.sheet: {len(data)} bytes")
     graph = read_sheet(data)
     show_graph(graph)
+    show_prices("on a formula list: 3 for an adder cell, 1 for a register cell", FORMULA, graph)
+    show_prices("on a table list with grain 4 and wait 1", Wait(Grain(TABLE, 4), 1), graph)
     answers = []
     for number, samples in enumerate(frames):
         values = Values(graph, samples)

@@ -7,6 +7,7 @@ ghost use Rattle.faults.specs.declared.Fault.the-variants.{OutOfMemory};
 ghost use Rattle.faults.specs.Faults.{number-of, place-of, line-of};
 use std::alloc::AllocError;
 use std::alloc::Refused;
+use std::error::Error;
 use std::fmt;
 
 // The first cause that a call met, with its place.
@@ -83,6 +84,8 @@ pub impl fmt::Display for Fault as FaultDisplay {
         }
     }
 }
+
+pub impl Error for Fault as FaultError {}
 
 pub impl From<AllocError> for Fault as FaultFromAlloc {
     ghost converts = { λ _ r. r ≡ OutOfMemory };

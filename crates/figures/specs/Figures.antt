@@ -2,11 +2,13 @@
 use Prim.Native.Nat.{ℕ, _^_}
 use mathlib.Core.Path.{_≡_}
 use mathlib.Core.List.{List, [], _∷_}
-use lib.IntN.{ℤ, pos, negsuc}
-use Rattle.std.specs.declared.result.Result.the-variants.{Ok, Err}
-use Rattle.widths.specs.Kinds.{cell-count}
+use lib.IntN.{pos, negsuc}
+use Rattle.std.specs.declared.result.Result.the-variants.{Ok}
+use Rattle.widths.specs.Kinds.{sides-of, cell-count}
 use Rattle.words.specs.Cut.{cut-to}
-use Rattle.graphs.specs.Graphs.{Graph, WellFormed}
+use Rattle.prices.specs.Prices.{Prices, charge, latency}
+use Rattle.prices.specs.Lists.{formula, grained, waiting}
+use Rattle.graphs.specs.Graphs.{Graph}
 use Rattle.graphs.specs.Reading.{read}
 use Rattle.graphs.specs.Values.{output-values}
 use Rattle.graphs.specs.declared.Source.the-variants.{Input}
@@ -18,6 +20,20 @@ Cuts = (cut-to (negsuc 4) 1 3 ≡ negsuc 2) × (cut-to (pos 6) 0 3 ≡ negsuc 1)
 
 abbrev pub Cells : Type 0
 Cells = (cell-count 0 ≡ 40) × (cell-count 1 ≡ 960) × (cell-count 2 ≡ 64)
+
+-- the formula list with both rates 1
+abbrev pub plain : Prices
+plain = formula 1 1
+
+-- multipliers: what (33, 21) costs, with grain 4 too, and how long some widths take, with wait 3 too
+abbrev pub Priced : Type 0
+Priced =
+    (latency plain 1 (sides-of 19 17) ≡ 5)
+    × (latency plain 1 (sides-of 40 24) ≡ 8)
+    × (latency plain 1 (sides-of 1 1) ≡ 1)
+    × (charge plain 1 (sides-of 33 21) ≡ 693)
+    × (charge (grained 4 plain) 1 (sides-of 33 21) ≡ 864)
+    × (latency (waiting 3 plain) 1 (sides-of 33 21) ≡ 10)
 
 -- two steps, two inputs of 8 bits, and their sum of 8 bits as the output
 abbrev pub worked-sheet : List ℕ
@@ -36,4 +52,5 @@ Worked = (read worked-sheet ≡ Ok worked-graph) × (output-values worked-graph 
 pub record Figures : Type 0 where
   pub cuts : Cuts
   pub cells : Cells
+  pub priced : Priced
   pub worked : Worked

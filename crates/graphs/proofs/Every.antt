@@ -1,18 +1,17 @@
 -- Every well-formed graph is read back from its writing: from the end of the bytes to their front, each command is taken and leaves the rest to read.
-use Prim.Native.Nat.{ℕ, zero, suc, _+_, _-_, _≤_, _<_}
+use Prim.Native.Nat.{ℕ, _+_, _-_, _≤_, _<_}
 use native.Mathlib.Omega.{arith}
 use mathlib.Core.Path.{_≡_, refl, ap, ap₂, sym, subst, _∙_}
-use mathlib.Core.Bool.{Bool, true, false, cond, not}
+use mathlib.Core.Bool.{Bool, true, false, not}
 use mathlib.Core.List.{List, [], _∷_, _++_, append-assoc}
-use lib.Dec.{leb, ltb}
+use lib.Dec.{leb}
 use lib.ListN.{length, getD}
-use Rattle.std.proofs.shelf.Lists.{append-nil, getD-at, length-append, length-push}
+use Rattle.std.proofs.shelf.Lists.{append-nil, getD-at, length-append}
 use Rattle.std.proofs.shelf.Tests.{and-parts, and-from, lt-ltb, le-leb, ne-eqb, not-from-false}
 use Rattle.std.specs.Joined.{joined}
-use Rattle.std.specs.declared.option.Option.the-variants.{Some, None}
-use Rattle.std.specs.declared.result.Result.the-variants.{Ok, Err}
+use Rattle.std.specs.declared.option.Option.the-variants.{Some}
+use Rattle.std.specs.declared.result.Result.the-variants.{Ok}
 use Rattle.widths.specs.Kinds.{valid, sides-of}
-use Rattle.graphs.specs.declared.Source.{Source}
 use Rattle.graphs.specs.declared.Operand.{Operand}
 use Rattle.graphs.specs.declared.Operation.{Operation}
 use Rattle.graphs.specs.declared.Operation.the-variants.{Add, Multiply}
@@ -21,8 +20,8 @@ use Rattle.graphs.specs.declared.Command.{Command}
 use Rattle.graphs.specs.declared.Command.the-variants as command
 use Rattle.graphs.specs.Graphs.{Graph, WellFormed, good-operation, good-operand, is-named, no-operation}
 use Rattle.graphs.specs.Scripts.{script, next}
-use Rattle.graphs.specs.Commands.{operands, command-of, sheet-format, source-of, operand-of}
-use Rattle.graphs.specs.Reading.{Sofar, nothing-read, is-empty, feed-range, cause, after, continue, judge, read}
+use Rattle.graphs.specs.Commands.{sheet-format, source-of, operand-of}
+use Rattle.graphs.specs.Reading.{Sofar, nothing-read, is-empty, feed-range, after, continue, judge, read}
 use Rattle.graphs.specs.Writing.{source-byte, input-bytes, operation-bytes, output-bytes, write}
 use Rattle.graphs.proofs.Scripts.{begun-whole}
 use Rattle.graphs.proofs.Taken.{Passes, no-cause-since, command-bytes, byte-range, source-back}

@@ -4,16 +4,15 @@ use native.Mathlib.Omega.{arith}
 use mathlib.Core.Path.{_≡_, refl, ap, ap₂, sym, subst, _∙_}
 use mathlib.Core.Bool.{Bool, true, false, cond, not}
 use mathlib.Core.List.{List, [], _∷_, _++_, append-assoc}
-use mathlib.Core.Logic.{_⊎_, inl, inr}
-use lib.Dec.{eqb, leb, ltb}
+use mathlib.Core.Logic.{inl, inr}
+use lib.Dec.{leb, ltb}
 use lib.ListN.{length, getD, drop}
 use Rattle.std.proofs.shelf.Lists.{append-nil, joined-more, getD-append-left, getD-push, length-push, nil-from-length}
-use Rattle.std.proofs.shelf.Tests.{cases-lt, cases-bool, eqb-true, eqb-false, not-true, leb-true, ltb-true, and-parts, and-from}
+use Rattle.std.proofs.shelf.Tests.{cases-lt, eqb-true, eqb-false, not-true, leb-true, ltb-true, and-parts, and-from}
 use Rattle.std.specs.Joined.{joined}
 use Rattle.std.specs.Options.{isSome, valueOr}
 use Rattle.std.specs.declared.option.Option.{Option}
 use Rattle.std.specs.declared.option.Option.the-variants.{Some, None}
-use Rattle.std.specs.declared.result.Result.{Result}
 use Rattle.std.specs.declared.result.Result.the-variants.{Ok, Err}
 use Rattle.faults.specs.declared.Fault.{Fault}
 use Rattle.faults.specs.declared.Fault.the-variants.{CutShort}
@@ -24,7 +23,7 @@ use Rattle.graphs.specs.declared.Feed.{Feed}
 use Rattle.graphs.specs.declared.Command.{Command}
 use Rattle.graphs.specs.declared.Command.the-variants as command
 use Rattle.graphs.specs.Graphs.{Graph, WellFormed, good-operation, good-operand, is-named, no-operation}
-use Rattle.graphs.specs.Scripts.{script, begun, next}
+use Rattle.graphs.specs.Scripts.{script, begun}
 use Rattle.graphs.specs.Commands.{operands, command-of, sheet-format, source-of, source-range, operand-of}
 use Rattle.graphs.specs.Reading.{Sofar, nothing-read, is-empty, feed-range, cause, after, whole-graph, continue, judge, read}
 use Rattle.graphs.specs.Writing.{input-bytes, operation-bytes, output-bytes, write}

@@ -1,10 +1,10 @@
 -- A refusal lies at the position of a command, or at the end: never past the length.
-use Prim.Native.Nat.{ℕ, zero, suc, _+_, _≤_, _<_}
+use Prim.Native.Nat.{ℕ, zero, suc, _+_, _≤_}
 use native.Mathlib.Omega.{arith}
 use mathlib.Core.Path.{_≡_, refl, ap, sym, subst, _∙_}
 use mathlib.Core.Bool.{Bool, true, false, cond}
 use mathlib.Core.List.{List, [], _∷_}
-use mathlib.Core.Logic.{_⊎_, inl, inr}
+use mathlib.Core.Logic.{inl, inr}
 use lib.ListN.{length}
 use Rattle.std.proofs.shelf.Tests.{cases-lt}
 use Rattle.std.specs.declared.option.Option.{Option}
@@ -13,7 +13,6 @@ use Rattle.std.specs.declared.result.Result.{Result}
 use Rattle.std.specs.declared.result.Result.the-variants.{Ok, Err}
 use Rattle.faults.specs.declared.Fault.{Fault}
 use Rattle.faults.specs.declared.Fault.the-variants.{UnknownCommand, CutShort, OutOfOrder, TooMany, OutOfRange, NamesNothing}
-use Rattle.graphs.specs.declared.Command.{Command}
 use Rattle.graphs.specs.Graphs.{Graph}
 use Rattle.graphs.specs.Scripts.{script, begun}
 use Rattle.graphs.specs.Commands.{operands, command-of, sheet-format}

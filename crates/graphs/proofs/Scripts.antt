@@ -1,16 +1,15 @@
 -- Reading commands from bytes, for any format. The bytes behind a position decide: one command on, the rest of the script stands behind its operands.
 use Prim.Native.Nat.{ℕ, zero, suc, _+_, _-_, _≤_, _<_}
 use native.Mathlib.Omega.{arith}
-use mathlib.Core.Path.{_≡_, refl, ap, sym, _∙_}
+use mathlib.Core.Path.{_≡_, refl, ap, _∙_}
 use mathlib.Core.Bool.{cond}
 use mathlib.Core.List.{List, [], _∷_}
-use lib.Dec.{leb}
 use lib.ListN.{length, getD, drop}
-use Rattle.std.proofs.shelf.Lists.{at-drop-more, drop-drop, length-drop}
+use Rattle.std.proofs.shelf.Lists.{at-drop-more, drop-drop}
 use Rattle.std.proofs.shelf.Tests.{le-leb, lt-leb}
 use Rattle.std.specs.declared.option.Option.{Option}
 use Rattle.std.specs.declared.option.Option.the-variants.{Some, None}
-use Rattle.graphs.specs.Scripts.{Format, Script, ends, unknown, short, next, begun, script}
+use Rattle.graphs.specs.Scripts.{Format, Script, unknown, short, next, begun, script}
 
 -- passing over operands
 pub script-skip : {A : Type 0} (F : Format A) (k : ℕ) (bs : List ℕ) → k ≤ length bs → script F k bs ≡ script F 0 (drop k bs)

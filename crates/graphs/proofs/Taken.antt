@@ -1,7 +1,7 @@
 -- A command that is taken: the tests that it passed, and the bytes that it was written with.
-use Prim.Native.Nat.{ℕ, zero, suc, _+_, _-_, _≤_, _<_}
+use Prim.Native.Nat.{ℕ, _+_, _-_, _≤_}
 use native.Mathlib.Omega.{arith}
-use mathlib.Core.Path.{_≡_, refl, ap, ap₂, sym, subst, _∙_}
+use mathlib.Core.Path.{_≡_, refl, ap, sym, subst, _∙_}
 use mathlib.Core.Bool.{Bool, true, false, cond}
 use mathlib.Core.List.{List, [], _∷_, _++_}
 use mathlib.Core.Logic.{_⊎_, inl, inr}
@@ -10,15 +10,13 @@ use lib.ListN.{length, getD, drop}
 use Rattle.std.proofs.shelf.Tests.{cases-bool, eqb-true, cond-true, cond-false, cond-both, leb-true, leb-false, or-cases, or-left, or-right, and-parts, and-from, ltb-true, lt-leb, le-leb}
 use Rattle.std.specs.declared.option.Option.{Option}
 use Rattle.std.specs.declared.option.Option.the-variants.{Some, None}
-use Rattle.faults.specs.declared.Fault.{Fault}
 use Rattle.graphs.specs.declared.Source.{Source}
 use Rattle.graphs.specs.declared.Source.the-variants.{Input, Earlier}
-use Rattle.graphs.specs.declared.Operand.{Operand}
 use Rattle.graphs.specs.declared.Feed.{Feed}
 use Rattle.graphs.specs.declared.Command.{Command}
 use Rattle.graphs.specs.declared.Command.the-variants as command
 use Rattle.graphs.specs.Graphs.{is-named}
-use Rattle.graphs.specs.Commands.{operands, command-of, source-range, source-of, operand-of}
+use Rattle.graphs.specs.Commands.{operands, command-of, source-range, source-of}
 use Rattle.graphs.specs.Reading.{Sofar, in-order, has-room, in-range, names-earlier, cause}
 use Rattle.graphs.specs.Writing.{source-byte}
 

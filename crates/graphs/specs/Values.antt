@@ -1,5 +1,5 @@
 -- The values of a graph's operations for given samples.
-use Prim.Native.Nat.{ℕ, zero, suc, _≤_, _<_}
+use Prim.Native.Nat.{ℕ, zero, suc, _<_}
 use mathlib.Core.Path.{_≡_}
 use mathlib.Core.Bool.{cond}
 use mathlib.Core.List.{List, map, _++_}
@@ -17,7 +17,7 @@ use Rattle.graphs.specs.declared.Source.the-variants.{Input, Earlier}
 use Rattle.graphs.specs.declared.Operand.{Operand}
 use Rattle.graphs.specs.declared.Operation.{Operation}
 use Rattle.graphs.specs.declared.Operation.the-variants.{Add, Multiply}
-use Rattle.graphs.specs.Graphs.{Graph, WellFormed, operation-at, count}
+use Rattle.graphs.specs.Graphs.{Graph, operation-at, count}
 
 -- an input's sample cut to the input's width
 abbrev pub input-value : List ℕ → List ℤ → ℕ → ℤ

@@ -1,11 +1,11 @@
 -- A job's invariant says that its graph is well-formed.
-use Prim.Native.Nat.{ℕ, _≤_, _<_}
-use mathlib.Core.Path.{_≡_, sym, ap, subst, _∙_}
+use Prim.Native.Nat.{_≤_, _<_}
+use mathlib.Core.Path.{_≡_, sym, subst}
 use mathlib.Core.Bool.{true}
 use lib.ListN.{length, getD}
 use Rattle.std.specs.Of.Vec.{vec-items, vec-len}
 use Rattle.sheet.specs.declared.Job.{Job}
-use Rattle.graphs.specs.Graphs.{Graph, WellFormed, good-operation, no-operation}
+use Rattle.graphs.specs.Graphs.{WellFormed, good-operation, no-operation}
 use Rattle.sheet.specs.Jobs.{graph-of}
 
 pub formed : (j : Job) → WellFormed (graph-of j)

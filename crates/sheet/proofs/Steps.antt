@@ -2,7 +2,7 @@
 use Prim.Native.Nat.{ℕ, suc, _+_, _-_, _≤_, _<_}
 use native.Mathlib.Omega.{arith}
 use mathlib.Core.Path.{_≡_, refl, ap, sym, subst, _∙_}
-use mathlib.Core.Bool.{Bool, true, false, cond}
+use mathlib.Core.Bool.{true, false, cond}
 use mathlib.Core.Logic.{_⊎_, inl, inr}
 use mathlib.Core.List.{List}
 use lib.ListN.{length, getD, take, drop}
@@ -17,10 +17,10 @@ use Rattle.faults.specs.declared.Fault.the-variants.{UnknownCommand, CutShort, 
 use Rattle.graphs.specs.declared.Command.{Command}
 use Rattle.graphs.specs.declared.Command.the-variants as command
 use Rattle.graphs.specs.Graphs.{Graph}
-use Rattle.graphs.specs.Scripts.{Script, ends, unknown, short, next, begun, script}
+use Rattle.graphs.specs.Scripts.{script}
 use Rattle.graphs.specs.Commands.{operands, command-of, sheet-format}
 use Rattle.graphs.specs.Reading.{Sofar, in-order, cause, after, continue, judge, whole-graph, nothing-read, read}
-use Rattle.sheet.specs.Drafts.{answer, verdict-from, Told, Kept, Takes, Goes}
+use Rattle.sheet.specs.Drafts.{answer, verdict-from, Told, Kept, Takes}
 use Rattle.graphs.proofs.Scripts.{reads-unknown, reads-short, reads-command}
 
 pub no-cause : (o : Option Fault) (x : Unit {0}) → Ok x ≡ answer o → o ≡ None

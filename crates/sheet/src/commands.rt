@@ -1,6 +1,6 @@
 // The commands of a sheet: their bytes, and the ranges of their operands.
 ghost use mathlib.Core.Path.{_≡_};
-ghost use Prim.Native.Nat.{ℕ, _+_, _<_, _≤_};
+ghost use Prim.Native.Nat.{_+_, _<_, _≤_};
 ghost use lib.ListN.{length};
 ghost use Rattle.std.specs.declared.option.Option.the-variants.{Some, None};
 ghost use Rattle.graphs.specs.Commands.{operands, command-of, feed-at, source-range, source-of, operand-of};

@@ -1,11 +1,15 @@
 // Walks through the job sheets of two filters: what each sheet says, command by command, and the value of each of its
 // operations and outputs for some frames of samples. At the end it shows how damaged copies of a sheet are refused.
+mod costs;
 mod damage;
 mod show;
 
+use costs::show_costs;
 use damage::DAMAGES;
 use damage::DamageDisplay;
+use faults::FaultDebug;
 use faults::FaultDisplay;
+use faults::FaultError;
 use sheet::Job;
 use show::Numbers;
 use show::NumbersDisplay;
@@ -29,14 +33,9 @@ fn walk(rt: &LibcRuntime, sheet: &str, samples: &str) -> Result<(), AnyError> {
     let bytes = fs::read(rt, sheet)?;
     let length = bytes.len();
     println!(rt, "{sheet}: {length} bytes")?;
-    let job = match Job::read(rt.alloc(), &bytes) {
-        Ok(job) => job,
-        Err(fault) => {
-            println!(rt, "  {fault}")?;
-            return Ok(());
-        }
-    };
+    let job = Job::read(rt.alloc(), &bytes)?;
     show_job(rt, &job)?;
+    show_costs(rt, &job)?;
     let text = fs::read_to_string(rt, samples)?;
     for (number, line) in text.lines().enumerate() {
         show_frame(rt, &job, number, line)?;
@@ -71,27 +70,21 @@ fn show_frame(rt: &LibcRuntime, job: &Job, number: usize, line: &str) -> Result<
 
 fn show_values(rt: &LibcRuntime, job: &Job, samples: &[i64]) -> Result<(), AnyError> {
     let mut values = [0i64; 64];
-    match job.operation_values(samples, &mut values) {
-        Ok(count) => {
-            for (o, value) in values.iter().take(count).enumerate() {
-                println!(rt, "    operation {o} = {value}")?;
-            }
-        }
-        Err(fault) => println!(rt, "    {fault}")?,
+    let count = job.operation_values(samples, &mut values)?;
+    for (o, value) in values.iter().take(count).enumerate() {
+        println!(rt, "    operation {o} = {value}")?;
     }
     Ok(())
 }
 
 fn show_outputs(rt: &LibcRuntime, job: &Job, samples: &[i64]) -> Result<(), AnyError> {
     let mut outputs = [0i64; 16];
-    match job.output_values(samples, &mut outputs) {
-        Ok(count) => println!(
-            rt,
-            "    outputs{}",
-            Numbers(outputs.get(0..count).unwrap_or(&[]))
-        )?,
-        Err(fault) => println!(rt, "    {fault}")?,
-    }
+    let count = job.output_values(samples, &mut outputs)?;
+    println!(
+        rt,
+        "    outputs{}",
+        Numbers(outputs.get(0..count).unwrap_or(&[]))
+    )?;
     Ok(())
 }
 

@@ -1,5 +1,5 @@
 use mathlib.Core.Path.{sym, _∙_}
-use mathlib.Core.Logic.{inl, inr}
+use mathlib.Core.Logic.{inr}
 use Rattle.std.proofs.shelf.Results.{err-from-errBy}
 use Rattle.sheet.specs.Drafts.{sofar}
 use Rattle.sheet.proofs.Steps.{goes-ended, goes-unknown, goes-short, goes-refused, goes-taken}

@@ -1,7 +1,6 @@
-use Prim.Native.Nat.{_≤_}
 use mathlib.Core.Path.{_≡_}
 use mathlib.Core.List.{map, _++_}
-use lib.ListN.{length, drop}
+use lib.ListN.{drop}
 use Rattle.std.specs.Iters.{counting}
 use Rattle.sheet.specs.Jobs.{graph-of}
 use Rattle.graphs.specs.Values.{value}

@@ -1,0 +1,9 @@
+pub mod Totals
+pub mod Under
+pub mod FormulaLaw
+pub mod WaitLaw
+pub mod Blocks
+pub mod GrainLaw
+pub mod Found
+pub mod Rows
+pub mod TableLaw

@@ -1,0 +1,122 @@
+-- What a table charges, and that it is sound. Of the cells in a row only the first costs anything, so a width costs the
+-- sum of the first entries; latencies that never fall from one row to the next never fall at all.
+use Prim.Native.Nat.{ℕ, zero, suc, _+_, _-_, _*_, _≤_, _<_, max}
+use native.Mathlib.Omega.{arith}
+use mathlib.Core.Path.{_≡_, refl, ap, sym, _∙_}
+use mathlib.Core.Bool.{Bool, true, false, cond, _&&_, _||_}
+use mathlib.Core.List.{List}
+use mathlib.Core.Logic.{_⊎_, inl, inr}
+use lib.Dec.{eqb, leb, ltb}
+use lib.ListN.{getD}
+use Rattle.std.proofs.shelf.Bits.{mul-le}
+use Rattle.std.proofs.shelf.Tests.{cases-lt}
+use Rattle.std.proofs.shelf.Ways.{tells}
+use Rattle.widths.specs.declared.Sides.{Sides}
+use Rattle.widths.specs.Kinds.{sides-of, covers, valid, is-cell}
+use Rattle.prices.specs.Sums.{total}
+use Rattle.prices.specs.Prices.{Prices, Sound, charge, cell-charge, latency}
+use Rattle.prices.specs.Lists.{by-kind, entry, table}
+use Rattle.prices.specs.Refusals.{falls, Charges, Rising}
+use Rattle.prices.proofs.Totals.{total-same, total-most}
+use Rattle.prices.proofs.Under.{place, charge-under, bounded-by}
+
+-- a sum of which only the first term counts
+total-first : (x n : ℕ) → total (λ j. cond (eqb j 0) x 0) (suc n) ≡ x
+total-first x zero = omega arith
+total-first x (suc n) = let e : cond (eqb (suc n) 0) x 0 ≡ 0 = grind (arith, tells) in omega (arith, total-first x n, e)
+
+-- the same for the rows 1 to 40
+pub rising-le : (steps : List ℕ) → Rising steps → (j i : ℕ) → i ≤ j → j < 40 → getD steps i 0 ≤ getD steps j 0
+rising-le steps h zero i l m = let z : i ≡ 0 = omega arith in rw z (omega arith)
+rising-le steps h (suc j) i l m =
+    let z : suc j - 1 ≡ j = omega arith in
+    let step : getD steps j 0 ≤ getD steps (suc j) 0 = let e = rw z at (h .1 (suc j) m) in grind (arith, tells) in
+    elim (cases-lt j i) [
+      | inl k ↦ let e : i ≡ suc j = omega arith in rw e (omega arith)
+      | inr k ↦ omega (arith, step, rising-le steps h j i k (omega arith))
+    ]
+
+module _ (adders firsts registers adder-steps multiplier-steps : List ℕ) where
+  abbrev listed : Prices
+  listed = table adders firsts registers adder-steps multiplier-steps
+
+  abbrev charges : ℕ → List ℕ
+  charges k = by-kind k adders firsts registers
+
+  entry-by-kind : (k p : ℕ) → by-kind k (entry adders p) (entry firsts p) (entry registers p) ≡ entry (charges k) p
+  entry-by-kind k p = both (eqb k 0) (eqb k 1) where
+    both : (x y : Bool) → cond x (entry adders p) (cond y (entry firsts p) (entry registers p)) ≡ entry (cond x adders (cond y firsts registers)) p
+    both true y = refl
+    both false true = refl
+    both false false = refl
+
+  cell-first : (k : ℕ) (w : Sides) → valid k w ≡ true → (i j : ℕ) → j < max (w .q) 1 → listed .cell k (place k i j) ≡ cond (eqb j 0) (getD (charges k) i 0) 0
+  cell-first k w v i j l =
+      let z : i + 1 - 1 ≡ i = omega arith in
+      let e : by-kind k (getD adders i 0) (getD firsts i 0) (getD registers i 0) ≡ getD (charges k) i 0 = rw z at (entry-by-kind k (i + 1)) in
+      rw z (grind (arith, tells))
+
+  pub table-charge : (k : ℕ) (w : Sides) → valid k w ≡ true → charge listed k w ≡ total (λ i. getD (charges k) i 0) (w .p)
+  table-charge k w v =
+      let z : max (w .q) 1 ≡ suc (w .q - 1) = omega arith in
+      charge-under listed k w v
+      ∙ total-same _ (λ i. getD (charges k) i 0) (w .p) (λ i l.
+      total-same _ (λ j. cond (eqb j 0) (getD (charges k) i 0) 0) (max (w .q) 1) (λ j m. cell-first k w v i j m)
+      ∙ ap (total (λ j. cond (eqb j 0) (getD (charges k) i 0) 0)) z
+      ∙ total-first (getD (charges k) i 0) (w .q - 1))
+
+  pub table-cell : (k : ℕ) (c : Sides) → is-cell k c ≡ true → c .q ≤ 1 → cell-charge listed k c ≡ entry (charges k) (c .p)
+  unfolding cell-charge
+  table-cell k c v l =
+      let e = entry-by-kind k (c .p) in
+      rw v (grind (arith, tells))
+
+  pub table-cell-rest : (k : ℕ) (c : Sides) → (is-cell k c && leb (c .q) 1) ≡ false → cell-charge listed k c ≡ 0
+  unfolding cell-charge
+  table-cell-rest k c v = grind (arith, tells)
+
+  module _ (a-fit : Charges adders) (f-fit : Charges firsts) (r-fit : Charges registers) (a-rise : Rising adder-steps) (m-rise : Rising multiplier-steps) where
+    charges-fit : (k : ℕ) → Charges (charges k)
+    charges-fit k = both (eqb k 0) (eqb k 1) where
+      both : (x y : Bool) → Charges (cond x adders (cond y firsts registers))
+      both true y = a-fit
+      both false true = f-fit
+      both false false = r-fit
+
+    charge-most : (k : ℕ) (w : Sides) → valid k w ≡ true → charge listed k w ≤ 4194304
+    charge-most k w v =
+        let short : w .p ≤ 64 = grind (arith, tells) in
+        let m = mul-le (w .p) 65535 64 65535 short (omega arith) in
+        omega (arith, table-charge k w v, total-most (λ i. getD (charges k) i 0) 65535 (w .p) (λ i l. charges-fit k i), m)
+
+    late-least : (k : ℕ) (w : Sides) → k ≤ 1 → valid k w ≡ true → 1 ≤ latency listed k w
+    unfolding latency
+    late-least k w h v =
+        let short : w .p - 1 < 40 = grind (arith, tells) in
+        let a = a-rise .1 (w .p - 1) short in
+        let m = m-rise .1 (w .p - 1) short in
+        grind (arith, tells)
+
+    late-most : (k : ℕ) (w : Sides) → latency listed k w ≤ 255
+    unfolding latency
+    late-most k w =
+        let a = a-rise .0 (w .p - 1) in
+        let m = m-rise .0 (w .p - 1) in
+        grind (arith, tells)
+
+    late-rises : (k : ℕ) (v w : Sides) → k ≤ 1 → valid k v ≡ true → valid k w ≡ true → covers w v ≡ true → latency listed k v ≤ latency listed k w
+    unfolding latency covers
+    late-rises k v w h a b c =
+        let short : w .p - 1 < 40 = grind (arith, tells) in
+        let less : v .p - 1 ≤ w .p - 1 = grind (arith, tells) in
+        let x = rising-le adder-steps a-rise (w .p - 1) (v .p - 1) less short in
+        let y = rising-le multiplier-steps m-rise (w .p - 1) (v .p - 1) less short in
+        grind (arith, tells)
+
+    pub table-sound : Sound listed
+    table-sound = record {
+      least = late-least;
+      most = late-most;
+      rises = late-rises;
+      bounded = bounded-by listed 4194304 charge-most;
+    }

@@ -1,0 +1,5 @@
+use Rattle.prices.proofs.WaitLaw.{wait-sound}
+use Rattle.prices.proofs.waits.WaitList.the-impl.Needs as need
+
+pub sound-law : need.sound-law
+sound-law g x = wait-sound (x .steps) (g .L·PriceList .prices (x .list)) (g .L·PriceList·met .sound (x .list))

@@ -1,0 +1,4 @@
+pub mod Sums
+pub mod Prices
+pub mod Lists
+pub mod Refusals
