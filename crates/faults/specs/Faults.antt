@@ -4,7 +4,7 @@ use mathlib.Core.List.{List, _++_}
 use lib.Chars.{codes}
 use Rattle.std.specs.Written.{decimal}
 use Rattle.faults.specs.declared.Fault.{Fault}
-use Rattle.faults.specs.declared.Fault.the-variants.{UnknownCommand, CutShort, OutOfOrder, TooMany, OutOfRange, NamesNothing, FaultyList, BufferTooShort, SampleCount, OutOfMemory}
+use Rattle.faults.specs.declared.Fault.the-variants.{UnknownCommand, CutShort, OutOfOrder, TooMany, OutOfRange, NamesNothing, FaultyList, CallOutOfRange, AlreadyThere, NotThere, StillServing, TooNarrow, TooLate, NotReady, UnitBusy, RegisterBusy, BufferTooShort, SampleCount, OutOfMemory}
 use Rattle.faults.specs.declared.Place.{Place}
 use Rattle.faults.specs.declared.Place.the-variants.{At, Row}
 
@@ -17,6 +17,15 @@ number-of (TooMany at) = 4
 number-of (OutOfRange at) = 5
 number-of (NamesNothing at) = 6
 number-of (FaultyList maker row) = 7
+number-of (CallOutOfRange operand) = 8
+number-of (AlreadyThere operand) = 9
+number-of (NotThere operand) = 10
+number-of (StillServing operation) = 11
+number-of (TooNarrow operand) = 12
+number-of (TooLate finish) = 13
+number-of (NotReady operation) = 14
+number-of (UnitBusy operation) = 15
+number-of (RegisterBusy register) = 16
 number-of (BufferTooShort needed) = 19
 number-of (SampleCount wanted) = 21
 
@@ -29,6 +38,15 @@ place-of (TooMany at) = At at
 place-of (OutOfRange at) = At at
 place-of (NamesNothing at) = At at
 place-of (FaultyList maker row) = Row maker row
+place-of (CallOutOfRange operand) = At operand
+place-of (AlreadyThere operand) = At operand
+place-of (NotThere operand) = At operand
+place-of (StillServing operation) = At operation
+place-of (TooNarrow operand) = At operand
+place-of (TooLate finish) = At finish
+place-of (NotReady operation) = At operation
+place-of (UnitBusy operation) = At operation
+place-of (RegisterBusy register) = At register
 place-of (BufferTooShort needed) = At needed
 place-of (SampleCount wanted) = At wanted
 

@@ -22,6 +22,21 @@ pub enum Fault {
     NamesNothing(usize),
     // a price list's maker and its first faulty row
     FaultyList(u8, u8),
+    // a call's operand, counted from 0
+    CallOutOfRange(usize),
+    AlreadyThere(usize),
+    NotThere(usize),
+    // the lowest operation that the unit serves
+    StillServing(usize),
+    // a call's operand again
+    TooNarrow(usize),
+    // the finish
+    TooLate(usize),
+    // the lowest operation that is read too early or reads too early, or that has the unit
+    NotReady(usize),
+    UnitBusy(usize),
+    // the lowest register with two values at once
+    RegisterBusy(usize),
     // the length needed
     BufferTooShort(usize),
     // the count wanted
@@ -50,6 +65,15 @@ impl Fault {
             Fault::OutOfRange(_) => 5,
             Fault::NamesNothing(_) => 6,
             Fault::FaultyList(_, _) => 7,
+            Fault::CallOutOfRange(_) => 8,
+            Fault::AlreadyThere(_) => 9,
+            Fault::NotThere(_) => 10,
+            Fault::StillServing(_) => 11,
+            Fault::TooNarrow(_) => 12,
+            Fault::TooLate(_) => 13,
+            Fault::NotReady(_) => 14,
+            Fault::UnitBusy(_) => 15,
+            Fault::RegisterBusy(_) => 16,
             Fault::BufferTooShort(_) => 19,
             Fault::SampleCount(_) => 21,
         }
@@ -65,6 +89,15 @@ impl Fault {
             | Fault::TooMany(at)
             | Fault::OutOfRange(at)
             | Fault::NamesNothing(at)
+            | Fault::CallOutOfRange(at)
+            | Fault::AlreadyThere(at)
+            | Fault::NotThere(at)
+            | Fault::StillServing(at)
+            | Fault::TooNarrow(at)
+            | Fault::TooLate(at)
+            | Fault::NotReady(at)
+            | Fault::UnitBusy(at)
+            | Fault::RegisterBusy(at)
             | Fault::BufferTooShort(at)
             | Fault::SampleCount(at) => Place::At(at),
             Fault::FaultyList(maker, row) => Place::Row(maker, row),

@@ -11,6 +11,7 @@ use Rattle.prices.specs.Lists.{formula, grained, waiting}
 use Rattle.graphs.specs.Graphs.{Graph}
 use Rattle.graphs.specs.Reading.{read}
 use Rattle.graphs.specs.Values.{output-values}
+use Rattle.figures.specs.Runs.{Long-run, Lengthened}
 use Rattle.graphs.specs.declared.Source.the-variants.{Input}
 use Rattle.graphs.specs.declared.Operand.{Operand}
 use Rattle.graphs.specs.declared.Operation.the-variants.{Add}
@@ -49,8 +50,13 @@ worked-graph = record { limit = 2; inputs = 8 ∷ 8 ∷ []; operations = Add 8 (
 abbrev pub Worked : Type 0
 Worked = (read worked-sheet ≡ Ok worked-graph) × (output-values worked-graph (pos 100 ∷ pos 100 ∷ []) ≡ negsuc 55 ∷ [])
 
+-- what the definitions of calls answer, call by call
+abbrev pub Called : Type 0
+Called = Long-run × Lengthened
+
 pub record Figures : Type 0 where
   pub cuts : Cuts
   pub cells : Cells
   pub priced : Priced
   pub worked : Worked
+  pub called : Called

@@ -1,11 +1,11 @@
 -- Sums over blocks: where the terms of each block of g are gathered at its first place, the sum of the first n terms is the
 -- plain sum up to the next multiple of g. On a grid of cells this holds along each side, and so for both.
-use Prim.Native.Nat.{ℕ, zero, suc, _+_, _-_, _*_, _/_, _%_, _≤_, _<_}
+use Prim.Native.Nat.{ℕ, zero, suc, _+_, _-_, _%_}
 use native.Mathlib.Omega.{arith}
 use mathlib.Core.Path.{_≡_, refl, ap, sym, subst, _∙_}
 use mathlib.Core.Logic.{_⊎_, inl, inr}
-use mathlib.Core.Bool.{Bool, true, false, cond, _&&_, _||_}
-use lib.Dec.{eqb, leb}
+use mathlib.Core.Bool.{true, cond}
+use lib.Dec.{eqb}
 use Rattle.std.proofs.shelf.Tests.{cases-eq, cond-true, cond-false, eq-eqb, ne-eqb}
 use Rattle.std.proofs.shelf.Ways.{tells}
 use Rattle.prices.specs.Sums.{total}

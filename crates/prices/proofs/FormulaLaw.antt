@@ -1,16 +1,15 @@
 -- What the formula list charges, and that it is sound: every cell under a width costs the same, so the charge is a product.
-use Prim.Native.Nat.{ℕ, _+_, _*_, _/_, _≤_, _<_, max}
+use Prim.Native.Nat.{ℕ, _*_, _≤_, max}
 use native.Mathlib.Nat.{mul-assoc}
 use native.Mathlib.Omega.{arith}
-use mathlib.Core.Path.{_≡_, refl, ap, sym, _∙_}
-use mathlib.Core.Bool.{Bool, true, false, cond, _&&_}
-use lib.Dec.{eqb, leb}
+use mathlib.Core.Path.{_≡_, ap, sym, _∙_}
+use mathlib.Core.Bool.{true}
 use Rattle.std.proofs.shelf.Ways.{tells}
 use Rattle.std.proofs.shelf.Bits.{mul-le}
 use Rattle.widths.specs.declared.Sides.{Sides}
 use Rattle.widths.specs.Kinds.{covers, valid}
 use Rattle.prices.specs.Sums.{total}
-use Rattle.prices.specs.Prices.{Prices, Sound, charge, latency}
+use Rattle.prices.specs.Prices.{Sound, charge, latency}
 use Rattle.prices.specs.Lists.{by-kind, formula}
 use Rattle.prices.specs.Refusals.{is-rate}
 use Rattle.prices.proofs.Totals.{total-alike}

@@ -1,15 +1,15 @@
 -- What a grain charges, and that it is sound. A cell of the grain bears the charges of its block, so the cells under a
 -- width add up to the list's charge for the rounded width; a kind of one side goes as one of two with one column.
-use Prim.Native.Nat.{ℕ, zero, suc, _+_, _-_, _*_, _/_, _%_, _≤_, _<_, max}
+use Prim.Native.Nat.{ℕ, _+_, _-_, _%_, _≤_, _<_, max}
 use native.Mathlib.Omega.{arith}
-use mathlib.Core.Path.{_≡_, refl, ap, ap₂, sym, subst, _∙_}
-use mathlib.Core.Logic.{_⊎_, inl, inr}
-use mathlib.Core.Bool.{Bool, true, false, cond, _&&_, _||_}
-use lib.Dec.{eqb, leb}
+use mathlib.Core.Path.{_≡_, refl, ap, ap₂, sym, _∙_}
+use mathlib.Core.Logic.{inl, inr}
+use mathlib.Core.Bool.{true, false, cond, _&&_}
+use lib.Dec.{eqb}
 use Rattle.std.proofs.shelf.Tests.{cases-bool, cond-true, cond-false}
 use Rattle.std.proofs.shelf.Ways.{tells}
 use Rattle.widths.specs.declared.Sides.{Sides}
-use Rattle.widths.specs.Kinds.{sides-of, covers, valid, is-cell, widest}
+use Rattle.widths.specs.Kinds.{sides-of, valid, is-cell, widest}
 use Rattle.prices.specs.Sums.{total}
 use Rattle.prices.specs.Prices.{Prices, Sound, charge, cell-charge, latency}
 use Rattle.prices.specs.Lists.{is-grain, up, rounded, starts, breadth, block, grained}

@@ -1,14 +1,14 @@
 -- The lowest number at which a test holds, as a loop finds it: nothing holds before, and what is found stays found.
-use Prim.Native.Nat.{ℕ, zero, suc, _+_, _-_, _≤_, _<_}
+use Prim.Native.Nat.{ℕ, zero, suc, _+_, _-_, _<_}
 use native.Mathlib.Numerals.{add-one}
 use native.Mathlib.Omega.{arith}
-use mathlib.Core.Path.{_≡_, refl, ap, sym, _∙_}
+use mathlib.Core.Path.{_≡_, refl, ap, _∙_}
 use mathlib.Core.Bool.{Bool, true, false, cond}
-use mathlib.Core.Logic.{_⊎_, inl, inr}
+use mathlib.Core.Logic.{inl, inr}
 use Rattle.std.proofs.shelf.Tests.{cases-lt}
 use Rattle.std.specs.declared.option.Option.{Option}
 use Rattle.std.specs.declared.option.Option.the-variants.{Some, None}
-use Rattle.prices.specs.Refusals.{or-else, lowest}
+use Rattle.prices.specs.Sums.{or-else, lowest}
 
 pub lowest-more : (f : ℕ → Bool) (n : ℕ) → lowest f n ≡ None → f n ≡ false → lowest f (n + 1) ≡ None
 lowest-more f n e h = rw (add-one, e, h)

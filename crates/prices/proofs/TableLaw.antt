@@ -1,22 +1,22 @@
 -- What a table charges, and that it is sound. Of the cells in a row only the first costs anything, so a width costs the
 -- sum of the first entries; latencies that never fall from one row to the next never fall at all.
-use Prim.Native.Nat.{ℕ, zero, suc, _+_, _-_, _*_, _≤_, _<_, max}
+use Prim.Native.Nat.{ℕ, zero, suc, _+_, _-_, _≤_, _<_, max}
 use native.Mathlib.Omega.{arith}
-use mathlib.Core.Path.{_≡_, refl, ap, sym, _∙_}
-use mathlib.Core.Bool.{Bool, true, false, cond, _&&_, _||_}
+use mathlib.Core.Path.{_≡_, refl, ap, _∙_}
+use mathlib.Core.Bool.{Bool, true, false, cond, _&&_}
 use mathlib.Core.List.{List}
-use mathlib.Core.Logic.{_⊎_, inl, inr}
-use lib.Dec.{eqb, leb, ltb}
+use mathlib.Core.Logic.{inl, inr}
+use lib.Dec.{eqb, leb}
 use lib.ListN.{getD}
 use Rattle.std.proofs.shelf.Bits.{mul-le}
 use Rattle.std.proofs.shelf.Tests.{cases-lt}
 use Rattle.std.proofs.shelf.Ways.{tells}
 use Rattle.widths.specs.declared.Sides.{Sides}
-use Rattle.widths.specs.Kinds.{sides-of, covers, valid, is-cell}
+use Rattle.widths.specs.Kinds.{covers, valid, is-cell}
 use Rattle.prices.specs.Sums.{total}
 use Rattle.prices.specs.Prices.{Prices, Sound, charge, cell-charge, latency}
-use Rattle.prices.specs.Lists.{by-kind, entry, table}
-use Rattle.prices.specs.Refusals.{falls, Charges, Rising}
+use Rattle.prices.specs.Lists.{by-kind, row-of, table}
+use Rattle.prices.specs.Refusals.{Charges, Rising}
 use Rattle.prices.proofs.Totals.{total-same, total-most}
 use Rattle.prices.proofs.Under.{place, charge-under, bounded-by}
 
@@ -43,9 +43,9 @@ module _ (adders firsts registers adder-steps multiplier-steps : List ℕ) where
   abbrev charges : ℕ → List ℕ
   charges k = by-kind k adders firsts registers
 
-  entry-by-kind : (k p : ℕ) → by-kind k (entry adders p) (entry firsts p) (entry registers p) ≡ entry (charges k) p
-  entry-by-kind k p = both (eqb k 0) (eqb k 1) where
-    both : (x y : Bool) → cond x (entry adders p) (cond y (entry firsts p) (entry registers p)) ≡ entry (cond x adders (cond y firsts registers)) p
+  row-by-kind : (k p : ℕ) → by-kind k (row-of adders p) (row-of firsts p) (row-of registers p) ≡ row-of (charges k) p
+  row-by-kind k p = both (eqb k 0) (eqb k 1) where
+    both : (x y : Bool) → cond x (row-of adders p) (cond y (row-of firsts p) (row-of registers p)) ≡ row-of (cond x adders (cond y firsts registers)) p
     both true y = refl
     both false true = refl
     both false false = refl
@@ -53,7 +53,7 @@ module _ (adders firsts registers adder-steps multiplier-steps : List ℕ) where
   cell-first : (k : ℕ) (w : Sides) → valid k w ≡ true → (i j : ℕ) → j < max (w .q) 1 → listed .cell k (place k i j) ≡ cond (eqb j 0) (getD (charges k) i 0) 0
   cell-first k w v i j l =
       let z : i + 1 - 1 ≡ i = omega arith in
-      let e : by-kind k (getD adders i 0) (getD firsts i 0) (getD registers i 0) ≡ getD (charges k) i 0 = rw z at (entry-by-kind k (i + 1)) in
+      let e : by-kind k (getD adders i 0) (getD firsts i 0) (getD registers i 0) ≡ getD (charges k) i 0 = rw z at (row-by-kind k (i + 1)) in
       rw z (grind (arith, tells))
 
   pub table-charge : (k : ℕ) (w : Sides) → valid k w ≡ true → charge listed k w ≡ total (λ i. getD (charges k) i 0) (w .p)
@@ -65,10 +65,10 @@ module _ (adders firsts registers adder-steps multiplier-steps : List ℕ) where
       ∙ ap (total (λ j. cond (eqb j 0) (getD (charges k) i 0) 0)) z
       ∙ total-first (getD (charges k) i 0) (w .q - 1))
 
-  pub table-cell : (k : ℕ) (c : Sides) → is-cell k c ≡ true → c .q ≤ 1 → cell-charge listed k c ≡ entry (charges k) (c .p)
+  pub table-cell : (k : ℕ) (c : Sides) → is-cell k c ≡ true → c .q ≤ 1 → cell-charge listed k c ≡ row-of (charges k) (c .p)
   unfolding cell-charge
   table-cell k c v l =
-      let e = entry-by-kind k (c .p) in
+      let e = row-by-kind k (c .p) in
       rw v (grind (arith, tells))
 
   pub table-cell-rest : (k : ℕ) (c : Sides) → (is-cell k c && leb (c .q) 1) ≡ false → cell-charge listed k c ≡ 0

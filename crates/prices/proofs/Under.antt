@@ -2,19 +2,18 @@
 -- under the width, and these are the first ones along each side. One side and two go alike, since a kind of one side
 -- has one column.
 use Prim.Native.Nat.{ℕ, _+_, _≤_, _<_, max}
-use native.Mathlib.Nat.{le-trans}
 use native.Mathlib.Omega.{arith}
-use mathlib.Core.Path.{_≡_, refl, ap, sym, _∙_}
-use mathlib.Core.Bool.{Bool, true, false, cond, _&&_}
-use mathlib.Core.Logic.{_⊎_, inl, inr}
+use mathlib.Core.Path.{_≡_, ap, _∙_}
+use mathlib.Core.Bool.{true, false, cond}
+use mathlib.Core.Logic.{inl, inr}
 use lib.Dec.{eqb, leb}
 use Rattle.std.proofs.shelf.Tests.{cond-true, cond-false, cases-bool}
 use Rattle.std.proofs.shelf.Ways.{tells}
 use Rattle.widths.specs.declared.Sides.{Sides}
-use Rattle.widths.specs.Kinds.{sides-of, covers, valid, is-cell, widest, deepest}
+use Rattle.widths.specs.Kinds.{sides-of, covers, valid}
 use Rattle.prices.specs.Sums.{total}
-use Rattle.prices.specs.Prices.{Prices, Sound, rows, columns, over, charge, cell-charge}
-use Rattle.prices.proofs.Totals.{total-same, total-cut, total-cond, total-has, cond-and}
+use Rattle.prices.specs.Prices.{Prices, rows, columns, over, charge}
+use Rattle.prices.proofs.Totals.{total-same, total-cut, total-cond, cond-and}
 
 -- the cell in row i and column j, both counted from 0
 abbrev pub place : ℕ → ℕ → ℕ → Sides

@@ -1,14 +1,14 @@
 -- What a wait keeps of the list below: holding a sum at 255 keeps its order, and charges are not touched.
-use Prim.Native.Nat.{ℕ, _+_, _≤_, _<_, min}
+use Prim.Native.Nat.{ℕ, _+_, _≤_, min}
 use native.Mathlib.Omega.{arith}
 use mathlib.Core.Path.{_≡_, refl, ap, sym, _∙_}
-use mathlib.Core.Bool.{Bool, true, false, cond, _&&_}
-use mathlib.Core.Logic.{_⊎_, inl, inr}
-use lib.Dec.{eqb, leb}
+use mathlib.Core.Bool.{true, _&&_}
+use mathlib.Core.Logic.{inl, inr}
+use lib.Dec.{leb}
 use Rattle.std.proofs.shelf.Tests.{cases-bool, cond-true, cond-false, and-from, le-leb, and-parts, leb-true}
 use Rattle.std.proofs.shelf.Ways.{tells}
 use Rattle.widths.specs.declared.Sides.{Sides}
-use Rattle.widths.specs.Kinds.{covers, valid}
+use Rattle.widths.specs.Kinds.{valid}
 use Rattle.prices.specs.Prices.{Prices, Sound, charge, cell-charge, latency}
 use Rattle.prices.specs.Lists.{waiting}
 

@@ -22,14 +22,14 @@ formula a r = record {
 }
 
 -- the entry of the cells or widths whose first side is p
-abbrev pub entry : List ℕ → ℕ → ℕ
-entry xs p = getD xs (p - 1) 0
+abbrev pub row-of : List ℕ → ℕ → ℕ
+row-of xs p = getD xs (p - 1) 0
 
 -- charges by first side, of multiplier cells only where the second side is 1; latencies by first side
 abbrev pub table : List ℕ → List ℕ → List ℕ → List ℕ → List ℕ → Prices
 table adders firsts registers adder-steps multiplier-steps = record {
-  cell = λ k c. by-kind k (entry adders (c .p)) (cond (eqb (c .q) 1) (entry firsts (c .p)) 0) (entry registers (c .p));
-  late = λ k w. by-kind k (entry adder-steps (w .p)) (entry multiplier-steps (w .p)) 0;
+  cell = λ k c. by-kind k (row-of adders (c .p)) (cond (eqb (c .q) 1) (row-of firsts (c .p)) 0) (row-of registers (c .p));
+  late = λ k w. by-kind k (row-of adder-steps (w .p)) (row-of multiplier-steps (w .p)) 0;
 }
 
 -- g is a grain

@@ -1,5 +1,5 @@
 -- What the makers of price lists refuse: the maker's number, and the first row at fault.
-use Prim.Native.Nat.{ℕ, zero, suc, _+_, _-_, _≤_, _<_}
+use Prim.Native.Nat.{ℕ, _+_, _-_, _≤_, _<_}
 use mathlib.Core.Path.{_≡_}
 use mathlib.Core.Bool.{Bool, false, cond, _&&_, _||_}
 use mathlib.Core.List.{List}
@@ -9,6 +9,7 @@ use Rattle.std.specs.declared.option.Option.{Option}
 use Rattle.std.specs.declared.option.Option.the-variants.{Some, None}
 use Rattle.faults.specs.declared.Fault.{Fault}
 use Rattle.faults.specs.declared.Fault.the-variants.{FaultyList}
+use Rattle.prices.specs.Sums.{or-else, lowest}
 use Rattle.prices.specs.Lists.{is-grain}
 
 -- a rate of the formula
@@ -30,16 +31,6 @@ Charges charges = (i : ℕ) → getD charges i 0 ≤ 65535
 -- every latency is a byte, and none of the 40 is at fault
 abbrev pub Rising : List ℕ → Type 0
 Rising steps = ((i : ℕ) → getD steps i 0 ≤ 255) × ((i : ℕ) → i < 40 → falls steps i ≡ false)
-
--- the first of two that is there
-abbrev pub or-else : {A : Type 0} → Option A → Option A → Option A
-or-else (Some x) d = Some x
-or-else None d = d
-
--- the lowest number below n at which f holds, if any
-abbrev pub lowest : (ℕ → Bool) → ℕ → Option ℕ
-lowest f zero = None
-lowest f (suc n) = or-else (lowest f n) (cond (f n) (Some n) None)
 
 -- the first latency at fault
 abbrev pub first-fall : List ℕ → Option ℕ

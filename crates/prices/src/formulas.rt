@@ -37,23 +37,57 @@ impl Formula {
         }
         Ok(Formula { adder, register })
     }
+
+    fn cell_price<K: Kind>(&self, c: K::Width) -> u64
+        ensures { λ r. ⌜ r ≡ cell-charge (formula (now (self .entry) .adder) (now (self .entry) .register)) (K·Kind .code) (K·Kind .shape c) ⌝ }
+    {
+        if K::is_cell(c) {
+            self.rate_of(K::number())
+        } else {
+            0
+        }
+    }
+
+    fn width_price<K: Kind>(&self, w: K::Width) -> u64
+        ensures { λ r. ⌜ r ≡ charge (formula (now (self .entry) .adder) (now (self .entry) .register)) (K·Kind .code) (K·Kind .shape w) ⌝ }
+    {
+        if K::is_width(w) {
+            cells_under(K::sides(w)) * self.rate_of(K::number())
+        } else {
+            0
+        }
+    }
+
+    fn width_steps<K: Kind>(&self, w: K::Width) -> u8
+        ensures { λ r. ⌜ r ≡ latency (formula (now (self .entry) .adder) (now (self .entry) .register)) (K·Kind .code) (K·Kind .shape w) ⌝ }
+    {
+        if !K::is_width(w) {
+            return 0;
+        }
+        let s = K::sides(w);
+        match K::number() {
+            0 => 2,
+            1 => (s.p + s.q).div_ceil(8),
+            _ => 0,
+        }
+    }
+
+    // The charge of each cell of the kind with this number.
+    fn rate_of(&self, number: u8) -> u64
+        ensures { λ r. ⌜ r ≡ by-kind number (now (self .entry) .adder) 1 (now (self .entry) .register) ⌝ }
+    {
+        match number {
+            0 => u64::from(self.adder),
+            1 => 1,
+            _ => u64::from(self.register),
+        }
+    }
 }
 
 fn is_rate(rate: u8) -> bool
     ensures { λ r. ⌜ r ≡ is-rate rate ⌝ }
 {
     1 <= rate && rate <= MOST_RATE
-}
-
-// The charge of each cell of the kind with this number.
-fn rate_of(number: u8, adder: u8, register: u8) -> u64
-    ensures { λ r. ⌜ r ≡ by-kind number adder 1 register ⌝ }
-{
-    match number {
-        0 => u64::from(adder),
-        1 => 1,
-        _ => u64::from(register),
-    }
 }
 
 // How many cells lie under a width; a kind with one side has one column.
@@ -63,52 +97,18 @@ fn cells_under(w: Sides) -> u64
     u64::from(w.p) * u64::from(w.q.max(1))
 }
 
-fn priced_cell<K: Kind>(adder: u8, register: u8, c: K::Width) -> u64
-    ensures { λ r. ⌜ r ≡ cell-charge (formula adder register) (K·Kind .code) (K·Kind .shape c) ⌝ }
-{
-    if K::is_cell(c) {
-        rate_of(K::number(), adder, register)
-    } else {
-        0
-    }
-}
-
-fn priced<K: Kind>(adder: u8, register: u8, w: K::Width) -> u64
-    ensures { λ r. ⌜ r ≡ charge (formula adder register) (K·Kind .code) (K·Kind .shape w) ⌝ }
-{
-    if K::is_width(w) {
-        cells_under(K::sides(w)) * rate_of(K::number(), adder, register)
-    } else {
-        0
-    }
-}
-
-fn steps_of<K: Kind>(adder: u8, register: u8, w: K::Width) -> u8
-    ensures { λ r. ⌜ r ≡ latency (formula adder register) (K·Kind .code) (K·Kind .shape w) ⌝ }
-{
-    if !K::is_width(w) {
-        return 0;
-    }
-    let s = K::sides(w);
-    match K::number() {
-        0 => 2,
-        1 => (s.p + s.q).div_ceil(8),
-        _ => 0,
-    }
-}
-
 pub impl PriceList for Formula as FormulaList {
     ghost prices = { λ x. formula (x .adder) (x .register) };
 
     fn cell_charge<K: Kind>(&self, c: K::Width) -> u64 {
-        priced_cell::<K>(self.adder, self.register, c)
+        self.cell_price::<K>(c)
     }
 
     fn charge<K: Kind>(&self, w: K::Width) -> u64 {
-        priced::<K>(self.adder, self.register, w)
+        self.width_price::<K>(w)
     }
 
     fn latency<K: Kind>(&self, w: K::Width) -> u8 {
-        steps_of::<K>(self.adder, self.register, w)
+        self.width_steps::<K>(w)
     }
 }

@@ -1,7 +1,7 @@
 // The grain: a width costs what the list below charges once each side is rounded up to a multiple of the grain.
 ghost use mathlib.Core.Path.{_≡_};
 ghost use mathlib.Core.Bool.{true};
-ghost use Prim.Native.Nat.{ℕ, _+_, _≤_};
+ghost use Prim.Native.Nat.{_+_, _≤_};
 ghost use Rattle.std.specs.Results.{Cases};
 ghost use Rattle.std.specs.declared.option.Option.the-variants.{Some, None};
 ghost use Rattle.widths.specs.Kinds.{sides-of};
@@ -32,6 +32,41 @@ impl<L: Drop> Grain<L> {
             return Err(Fault::FaultyList(MAKER, 0));
         }
         Ok(Grain { list, size })
+    }
+}
+
+impl<L: PriceList> Grain<L> {
+    fn cell_price<K: Kind>(&self, c: K::Width) -> u64
+        ensures { λ r. ⌜ r ≡ cell-charge (grained (now (self .entry) .size) (L·PriceList .prices (now (self .entry) .list))) (K·Kind .code) (K·Kind .shape c) ⌝ }
+    {
+        let s = K::sides(c);
+        if K::is_cell(c) && starts_block(s.p, self.size) && starts_block(s.q, self.size) {
+            block_from::<K, L>(&self.list, s, self.size, breadth_of(s.q, self.size))
+        } else {
+            0
+        }
+    }
+
+    fn width_price<K: Kind>(&self, w: K::Width) -> u64
+        ensures { λ r. ⌜ r ≡ charge (grained (now (self .entry) .size) (L·PriceList .prices (now (self .entry) .list))) (K·Kind .code) (K·Kind .shape w) ⌝ }
+    {
+        if !K::is_width(w) {
+            return 0;
+        }
+        let s = K::sides(w);
+        match K::width(Sides {
+            p: round_up(s.p, self.size),
+            q: round_up(s.q, self.size),
+        }) {
+            Some(v) => self.list.charge::<K>(v),
+            None => 0,
+        }
+    }
+
+    fn width_steps<K: Kind>(&self, w: K::Width) -> u8
+        ensures { λ r. ⌜ r ≡ latency (grained (now (self .entry) .size) (L·PriceList .prices (now (self .entry) .list))) (K·Kind .code) (K·Kind .shape w) ⌝ }
+    {
+        self.list.latency::<K>(w)
     }
 }
 
@@ -74,78 +109,43 @@ fn cell_at<K: Kind, L: PriceList>(list: &L, c: Sides) -> u64
     }
 }
 
-// What the list charges for some cells along the second side.
-fn row_from<K: Kind, L: PriceList>(list: &L, c: Sides, columns: u8) -> u64
-    requires { ⌜ c .q ≤ 64 ⌝ ∗ ⌜ columns ≤ 8 ⌝ }
-    ensures value { λ r. ⌜ r ≡ total (λ j. cell-charge (L·PriceList .prices (now (list .entry))) (K·Kind .code) (sides-of (c .p) (c .q + j))) columns ⌝ }
+// What the list charges for so many cells along the second side, from a cell on.
+fn row_from<K: Kind, L: PriceList>(list: &L, c: Sides, across: u8) -> u64
+    requires { ⌜ c .q ≤ 64 ⌝ ∗ ⌜ across ≤ 8 ⌝ }
+    ensures value { λ r. ⌜ r ≡ total (λ j. cell-charge (L·PriceList .prices (now (list .entry))) (K·Kind .code) (sides-of (c .p) (c .q + j))) across ⌝ }
     ensures bound { λ r. ⌜ r ≤ 33554432 ⌝ }
 {
     let mut sum: u64 = 0;
-    for j in 0..columns {
+    for j in 0..across {
         sum += cell_at::<K, L>(list, Sides { p: c.p, q: c.q + j });
     }
     sum
 }
 
-// What the list charges for a block of cells.
-fn block_from<K: Kind, L: PriceList>(list: &L, c: Sides, rows: u8, columns: u8) -> u64
-    requires { ⌜ c .p ≤ 64 ⌝ ∗ ⌜ c .q ≤ 64 ⌝ ∗ ⌜ rows ≤ 8 ⌝ ∗ ⌜ columns ≤ 8 ⌝ }
-    ensures { λ r. ⌜ r ≡ total (λ i. total (λ j. cell-charge (L·PriceList .prices (now (list .entry))) (K·Kind .code) (sides-of (c .p + i) (c .q + j))) columns) rows ⌝ }
+// What the list charges for the block of cells that starts at a cell.
+fn block_from<K: Kind, L: PriceList>(list: &L, c: Sides, down: u8, across: u8) -> u64
+    requires { ⌜ c .p ≤ 64 ⌝ ∗ ⌜ c .q ≤ 64 ⌝ ∗ ⌜ down ≤ 8 ⌝ ∗ ⌜ across ≤ 8 ⌝ }
+    ensures { λ r. ⌜ r ≡ total (λ i. total (λ j. cell-charge (L·PriceList .prices (now (list .entry))) (K·Kind .code) (sides-of (c .p + i) (c .q + j))) across) down ⌝ }
 {
     let mut sum: u64 = 0;
-    for i in 0..rows {
-        sum += row_from::<K, L>(list, Sides { p: c.p + i, q: c.q }, columns);
+    for i in 0..down {
+        sum += row_from::<K, L>(list, Sides { p: c.p + i, q: c.q }, across);
     }
     sum
-}
-
-fn priced_cell<K: Kind, L: PriceList>(list: &L, size: u8, c: K::Width) -> u64
-    requires { ⌜ is-grain size ≡ true ⌝ }
-    ensures { λ r. ⌜ r ≡ cell-charge (grained size (L·PriceList .prices (now (list .entry)))) (K·Kind .code) (K·Kind .shape c) ⌝ }
-{
-    let s = K::sides(c);
-    if K::is_cell(c) && starts_block(s.p, size) && starts_block(s.q, size) {
-        block_from::<K, L>(list, s, size, breadth_of(s.q, size))
-    } else {
-        0
-    }
-}
-
-fn priced<K: Kind, L: PriceList>(list: &L, size: u8, w: K::Width) -> u64
-    requires { ⌜ is-grain size ≡ true ⌝ }
-    ensures { λ r. ⌜ r ≡ charge (grained size (L·PriceList .prices (now (list .entry)))) (K·Kind .code) (K·Kind .shape w) ⌝ }
-{
-    if !K::is_width(w) {
-        return 0;
-    }
-    let s = K::sides(w);
-    match K::width(Sides {
-        p: round_up(s.p, size),
-        q: round_up(s.q, size),
-    }) {
-        Some(v) => list.charge::<K>(v),
-        None => 0,
-    }
-}
-
-fn steps_of<K: Kind, L: PriceList>(list: &L, size: u8, w: K::Width) -> u8
-    ensures { λ r. ⌜ r ≡ latency (grained size (L·PriceList .prices (now (list .entry)))) (K·Kind .code) (K·Kind .shape w) ⌝ }
-{
-    list.latency::<K>(w)
 }
 
 pub impl<L: PriceList> PriceList for Grain<L> as GrainList {
     ghost prices = { λ x. grained (x .size) (L·PriceList .prices (x .list)) };
 
     fn cell_charge<K: Kind>(&self, c: K::Width) -> u64 {
-        priced_cell::<K, L>(&self.list, self.size, c)
+        self.cell_price::<K>(c)
     }
 
     fn charge<K: Kind>(&self, w: K::Width) -> u64 {
-        priced::<K, L>(&self.list, self.size, w)
+        self.width_price::<K>(w)
     }
 
     fn latency<K: Kind>(&self, w: K::Width) -> u8 {
-        steps_of::<K, L>(&self.list, self.size, w)
+        self.width_steps::<K>(w)
     }
 }

@@ -1,13 +1,13 @@
 // The table list: charges and latencies row by row, by the first side of a cell or a width.
 ghost use mathlib.Core.Path.{_≡_};
-ghost use Prim.Native.Nat.{ℕ, _+_, _≤_, _<_};
+ghost use Prim.Native.Nat.{_+_, _≤_, _<_};
 ghost use lib.ListN.{length, getD};
 ghost use Rattle.std.specs.Results.{Cases};
 ghost use Rattle.std.specs.declared.option.Option.the-variants.{Some, None};
 ghost use Rattle.widths.specs.Kinds.{widest};
 ghost use Rattle.prices.specs.Sums.{total};
 ghost use Rattle.prices.specs.Prices.{cell-charge, charge, latency};
-ghost use Rattle.prices.specs.Lists.{by-kind, entry, table};
+ghost use Rattle.prices.specs.Lists.{by-kind, row-of, table};
 ghost use Rattle.prices.specs.Refusals.{falls, first-fall, table-fault, Charges, Rising};
 use super::PriceList;
 use faults::Fault;
@@ -74,8 +74,8 @@ impl Table {
         }
     }
 
-    fn priced_cell<K: Kind>(&self, c: K::Width) -> u64
-        ensures { λ r. ⌜ r ≡ cell-charge (table (now (self .entry) .adders) (now (self .entry) .firsts) (now (self .entry) .registers) (now (self .entry) .«adder_steps») (now (self .entry) .«multiplier_steps»)) (K·Kind .code) (K·Kind .shape c) ⌝ }
+    fn cell_price<K: Kind>(&self, c: K::Width) -> u64
+        ensures { λ r. let x = now (self .entry) in ⌜ r ≡ cell-charge (table (x .adders) (x .firsts) (x .registers) (x .«adder_steps») (x .«multiplier_steps»)) (K·Kind .code) (K·Kind .shape c) ⌝ }
     {
         let s = K::sides(c);
         if K::is_cell(c) && s.q <= 1 {
@@ -85,8 +85,8 @@ impl Table {
         }
     }
 
-    fn priced<K: Kind>(&self, w: K::Width) -> u64
-        ensures { λ r. ⌜ r ≡ charge (table (now (self .entry) .adders) (now (self .entry) .firsts) (now (self .entry) .registers) (now (self .entry) .«adder_steps») (now (self .entry) .«multiplier_steps»)) (K·Kind .code) (K·Kind .shape w) ⌝ }
+    fn width_price<K: Kind>(&self, w: K::Width) -> u64
+        ensures { λ r. let x = now (self .entry) in ⌜ r ≡ charge (table (x .adders) (x .firsts) (x .registers) (x .«adder_steps») (x .«multiplier_steps»)) (K·Kind .code) (K·Kind .shape w) ⌝ }
     {
         if K::is_width(w) {
             sum_of(self.charges(K::number()), K::sides(w).p)
@@ -95,8 +95,8 @@ impl Table {
         }
     }
 
-    fn steps_of<K: Kind>(&self, w: K::Width) -> u8
-        ensures { λ r. ⌜ r ≡ latency (table (now (self .entry) .adders) (now (self .entry) .firsts) (now (self .entry) .registers) (now (self .entry) .«adder_steps») (now (self .entry) .«multiplier_steps»)) (K·Kind .code) (K·Kind .shape w) ⌝ }
+    fn width_steps<K: Kind>(&self, w: K::Width) -> u8
+        ensures { λ r. let x = now (self .entry) in ⌜ r ≡ latency (table (x .adders) (x .firsts) (x .registers) (x .«adder_steps») (x .«multiplier_steps»)) (K·Kind .code) (K·Kind .shape w) ⌝ }
     {
         if !K::is_width(w) {
             return 0;
@@ -113,7 +113,7 @@ impl Table {
 // The charge of the cells whose first side is p.
 fn charge_at(charges: &[u16], p: u8) -> u16
     requires { ⌜ 1 ≤ p ⌝ ∗ ⌜ p ≤ length (now charges) ⌝ }
-    ensures { λ r. ⌜ r ≡ entry (now (charges .entry)) p ⌝ }
+    ensures { λ r. ⌜ r ≡ row-of (now (charges .entry)) p ⌝ }
 {
     charges[usize::from(p) - 1]
 }
@@ -121,7 +121,7 @@ fn charge_at(charges: &[u16], p: u8) -> u16
 // The latency of the widths whose first side is p.
 fn steps_at(steps: &[u8], p: u8) -> u8
     requires { ⌜ 1 ≤ p ⌝ ∗ ⌜ p ≤ length (now steps) ⌝ }
-    ensures { λ r. ⌜ r ≡ entry (now (steps .entry)) p ⌝ }
+    ensures { λ r. ⌜ r ≡ row-of (now (steps .entry)) p ⌝ }
 {
     steps[usize::from(p) - 1]
 }
@@ -132,8 +132,8 @@ fn sum_of(charges: &[u16], count: u8) -> u64
     ensures { λ r. ⌜ r ≡ total (λ i. getD (now (charges .entry)) i 0) count ⌝ }
 {
     let mut sum: u64 = 0;
-    for i in 0..count {
-        sum += u64::from(charges[usize::from(i)]);
+    for charge in &charges[..usize::from(count)] {
+        sum += u64::from(*charge);
     }
     sum
 }
@@ -173,14 +173,14 @@ pub impl PriceList for Table as TableList {
     ghost prices = { λ x. table (x .adders) (x .firsts) (x .registers) (x .«adder_steps») (x .«multiplier_steps») };
 
     fn cell_charge<K: Kind>(&self, c: K::Width) -> u64 {
-        self.priced_cell::<K>(c)
+        self.cell_price::<K>(c)
     }
 
     fn charge<K: Kind>(&self, w: K::Width) -> u64 {
-        self.priced::<K>(w)
+        self.width_price::<K>(w)
     }
 
     fn latency<K: Kind>(&self, w: K::Width) -> u8 {
-        self.steps_of::<K>(w)
+        self.width_steps::<K>(w)
     }
 }

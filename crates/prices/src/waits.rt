@@ -33,27 +33,29 @@ impl<L: Drop> Wait<L> {
     }
 }
 
-fn priced_cell<K: Kind, L: PriceList>(list: &L, steps: u8, c: K::Width) -> u64
-    ensures { λ r. ⌜ r ≡ cell-charge (waiting steps (L·PriceList .prices (now (list .entry)))) (K·Kind .code) (K·Kind .shape c) ⌝ }
-{
-    list.cell_charge::<K>(c)
-}
+impl<L: PriceList> Wait<L> {
+    fn cell_price<K: Kind>(&self, c: K::Width) -> u64
+        ensures { λ r. ⌜ r ≡ cell-charge (waiting (now (self .entry) .steps) (L·PriceList .prices (now (self .entry) .list))) (K·Kind .code) (K·Kind .shape c) ⌝ }
+    {
+        self.list.cell_charge::<K>(c)
+    }
 
-fn priced<K: Kind, L: PriceList>(list: &L, steps: u8, w: K::Width) -> u64
-    ensures { λ r. ⌜ r ≡ charge (waiting steps (L·PriceList .prices (now (list .entry)))) (K·Kind .code) (K·Kind .shape w) ⌝ }
-{
-    list.charge::<K>(w)
-}
+    fn width_price<K: Kind>(&self, w: K::Width) -> u64
+        ensures { λ r. ⌜ r ≡ charge (waiting (now (self .entry) .steps) (L·PriceList .prices (now (self .entry) .list))) (K·Kind .code) (K·Kind .shape w) ⌝ }
+    {
+        self.list.charge::<K>(w)
+    }
 
-// No latency of a sound list is 0, so 0 says that there is nothing to wait for.
-fn lengthened<K: Kind, L: PriceList>(list: &L, steps: u8, w: K::Width) -> u8
-    ensures { λ r. ⌜ r ≡ latency (waiting steps (L·PriceList .prices (now (list .entry)))) (K·Kind .code) (K·Kind .shape w) ⌝ }
-{
-    let below = list.latency::<K>(w);
-    if below == 0 {
-        0
-    } else {
-        below.saturating_add(steps)
+    // A list answers 0 exactly where there is no latency, and so nothing to lengthen.
+    fn width_steps<K: Kind>(&self, w: K::Width) -> u8
+        ensures { λ r. ⌜ r ≡ latency (waiting (now (self .entry) .steps) (L·PriceList .prices (now (self .entry) .list))) (K·Kind .code) (K·Kind .shape w) ⌝ }
+    {
+        let below = self.list.latency::<K>(w);
+        if below == 0 {
+            0
+        } else {
+            below.saturating_add(self.steps)
+        }
     }
 }
 
@@ -61,14 +63,14 @@ pub impl<L: PriceList> PriceList for Wait<L> as WaitList {
     ghost prices = { λ x. waiting (x .steps) (L·PriceList .prices (x .list)) };
 
     fn cell_charge<K: Kind>(&self, c: K::Width) -> u64 {
-        priced_cell::<K, L>(&self.list, self.steps, c)
+        self.cell_price::<K>(c)
     }
 
     fn charge<K: Kind>(&self, w: K::Width) -> u64 {
-        priced::<K, L>(&self.list, self.steps, w)
+        self.width_price::<K>(w)
     }
 
     fn latency<K: Kind>(&self, w: K::Width) -> u8 {
-        lengthened::<K, L>(&self.list, self.steps, w)
+        self.width_steps::<K>(w)
     }
 }

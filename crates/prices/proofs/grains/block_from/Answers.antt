@@ -9,5 +9,5 @@ use Rattle.prices.proofs.grains.block_from.Needs as need
 
 pub loop-i-again : need.loop-i-again
 loop-i-again g c =
-    let f : ℕ → ℕ = λ i. total (λ j. cell-charge (g .L·PriceList .prices (c .args .list .now)) (g .K·Kind .code) (sides-of (c .args .c .p + i) (c .args .c .q + j))) (c .args .columns) in
+    let f : ℕ → ℕ = λ i. total (λ j. cell-charge (g .L·PriceList .prices (c .args .list .now)) (g .K·Kind .code) (sides-of (c .args .c .p + i) (c .args .c .q + j))) (c .args .across) in
     (ap₂ _+_ (c .loop-i .inv .0) (c .row-from-sum .ensures .value) ∙ sym (total-next f (c .loop-i .i)), omega arith)

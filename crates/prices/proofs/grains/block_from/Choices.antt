@@ -7,5 +7,5 @@ use Rattle.prices.proofs.grains.block_from.Given as given
 
 abbrev pub Inv-loop-i : given.InvT-loop-i
 Inv-loop-i g l =
-    (l .sum ≡ total (λ i. total (λ j. cell-charge (g .L·PriceList .prices (l .list)) (g .K·Kind .code) (sides-of (l .c .p + i) (l .c .q + j))) (l .columns)) (l .i))
+    (l .sum ≡ total (λ i. total (λ j. cell-charge (g .L·PriceList .prices (l .list)) (g .K·Kind .code) (sides-of (l .c .p + i) (l .c .q + j))) (l .across)) (l .i))
     × (l .sum ≤ 33554432 * l .i)

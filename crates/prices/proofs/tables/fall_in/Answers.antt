@@ -3,7 +3,8 @@ use mathlib.Core.Path.{_≡_, ap, sym, _∙_}
 use mathlib.Core.Bool.{true, false}
 use lib.ListN.{length}
 use Rattle.std.specs.declared.option.Option.the-variants.{None}
-use Rattle.prices.specs.Refusals.{falls, lowest}
+use Rattle.prices.specs.Sums.{lowest}
+use Rattle.prices.specs.Refusals.{falls}
 use Rattle.prices.proofs.Rows.{lowest-more, lowest-found, lowest-none}
 use Rattle.prices.proofs.tables.fall_in.Needs as need
 

@@ -1,6 +1,7 @@
 use mathlib.Core.Path.{_≡_}
 use Rattle.std.specs.declared.option.Option.the-variants.{None}
-use Rattle.prices.specs.Refusals.{falls, lowest}
+use Rattle.prices.specs.Sums.{lowest}
+use Rattle.prices.specs.Refusals.{falls}
 use Rattle.prices.proofs.tables.fall_in.Given as given
 
 abbrev pub Inv-loop-i : given.InvT-loop-i

@@ -4,5 +4,5 @@ use lib.ListN.{getD}
 use Rattle.prices.specs.Sums.{total}
 use Rattle.prices.proofs.tables.sum_of.Given as given
 
-abbrev pub Inv-loop-i : given.InvT-loop-i
-Inv-loop-i l = (l .sum ≡ total (λ i. getD (l .charges) i 0) (l .i)) × (l .sum ≤ 65535 * l .i)
+abbrev pub Inv-loop-charge : given.InvT-loop-charge
+Inv-loop-charge l = (l .sum ≡ total (λ i. getD (l .charges) i 0) (l .charge-index)) × (l .sum ≤ 65535 * l .charge-index)

@@ -1,0 +1,6 @@
+use mathlib.Core.Path.{_∙_}
+use Rattle.prices.proofs.WaitLaw.{wait-charge}
+use Rattle.prices.proofs.waits.Wait.width_price.Needs as need
+
+pub returns : need.returns
+returns g c = c .charge .ensures ∙ wait-charge (c .args .self .now .steps) (g .L·PriceList .prices (c .args .self .now .list)) (g .K·Kind .code) (g .K·Kind .shape (c .args .w))

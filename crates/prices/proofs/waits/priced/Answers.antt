@@ -1,6 +1,0 @@
-use mathlib.Core.Path.{_∙_}
-use Rattle.prices.proofs.WaitLaw.{wait-charge}
-use Rattle.prices.proofs.waits.priced.Needs as need
-
-pub returns : need.returns
-returns g c = c .charge .ensures ∙ wait-charge (c .args .steps) (g .L·PriceList .prices (c .args .list .now)) (g .K·Kind .code) (g .K·Kind .shape (c .args .w))
