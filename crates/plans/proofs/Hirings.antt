@@ -16,7 +16,8 @@ use Rattle.faults.specs.declared.Fault.the-variants.{StillServing}
 use Rattle.prices.specs.Sums.{All-none}
 use Rattle.plans.specs.Plans.{Plan, kind-at, units, register, steps-of, finish-with, finish, last}
 use Rattle.plans.specs.Calls.{with-unit, serves, hire-causes, dismiss-causes}
-use Rattle.plans.proofs.Lowest.{unit-low, some-same, none-some, flag-none, cond-some, lowest-none}
+use Rattle.prices.proofs.Searches.{none-some, flag-none, lowest-none}
+use Rattle.plans.proofs.Looks.{unit-low, some-same, cond-some}
 use Rattle.plans.proofs.Placings.{absent, fault-none}
 use Rattle.plans.proofs.Rules.{Rules}
 

@@ -1,5 +1,5 @@
 pub mod Rules
-pub mod Lowest
+pub mod Looks
 pub mod Parts
 pub mod Placings
 pub mod Hirings

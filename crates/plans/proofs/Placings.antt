@@ -19,7 +19,8 @@ use Rattle.faults.specs.declared.Fault.the-variants.{NotReady, UnitBusy, Regist
 use Rattle.prices.specs.Sums.{any, flag, All-none}
 use Rattle.plans.specs.Plans.{Plan, kind-at, own-at, value-at, reads, units, register, wide, finish-with, finish, last}
 use Rattle.plans.specs.Calls.{with-placing, disorder, crowding, sharing, clash, place-causes}
-use Rattle.plans.proofs.Lowest.{unit-low, low-unit, some-same, none-some, flag-none, cond-some, lowest-none, lowest-clear}
+use Rattle.prices.proofs.Searches.{none-some, flag-none, lowest-none, lowest-clear}
+use Rattle.plans.proofs.Looks.{unit-low, low-unit, some-same, cond-some}
 use Rattle.plans.proofs.Rules.{Rules, reads-earlier}
 
 pub fault-none : (f : ℕ → Fault) (x : Option ℕ) → mapped f x ≡ None → x ≡ None

@@ -15,7 +15,8 @@ use Rattle.prices.specs.Sums.{first-of, All-none}
 use Rattle.plans.specs.Plans.{Plan, Complete, empty}
 use Rattle.plans.specs.Calls.{Call, hire, dismiss, place, lift, with-placing, placing, causes, place-causes, verdict, made, settled, after, run, plan-after}
 use Rattle.plans.specs.Law.{place-so, Not-in, Missing, Taken, Part, Is-in, calls-of, Order}
-use Rattle.plans.proofs.Lowest.{none-some, cond-some, first-none, none-first}
+use Rattle.prices.proofs.Searches.{none-some, first-none, none-first}
+use Rattle.plans.proofs.Looks.{cond-some}
 use Rattle.plans.proofs.Parts.{part-lawful}
 use Rattle.plans.proofs.Placings.{clear, lawful-taken, taken-lawful}
 use Rattle.plans.proofs.Hirings.{hire-lawful, dismiss-lawful}

@@ -24,6 +24,7 @@ record Steps (g : ℕ) : Type 0 where
   at : (n : ℕ) → n % g ≡ 0 → (up g n ≡ n) × (up g (suc n) ≡ n + g)
   off : (n : ℕ) → (n % g ≡ 0 → ⊥) → up g (suc n) ≡ up g n
 
+-- by cases of the grain, since division by a literal is decided
 steps : (g : ℕ) → is-grain g ≡ true → Steps g
 steps =
     by-grain Steps
@@ -36,6 +37,7 @@ steps =
 abbrev pub gathered : (ℕ → ℕ) → ℕ → ℕ → ℕ
 gathered f g i = cond (eqb (i % g) 0) (total (λ a. f (i + a)) g) 0
 
+-- along one side
 pub gathered-total : (f : ℕ → ℕ) (g : ℕ) → is-grain g ≡ true → (n : ℕ) → total (gathered f g) n ≡ total f (up g n)
 gathered-total f g ok zero = rw (steps g ok .none)
 gathered-total f g ok (suc n) =
@@ -59,6 +61,7 @@ gathered-across c g i n =
     total-cond (eqb (i % g) 0) (λ j. total (λ a. c (i + a) j) g) n
     ∙ ap (λ x. cond (eqb (i % g) 0) x 0) (total-swap (λ j a. c (i + a) j) n g)
 
+-- equal terms gather alike
 gathered-same : (f h : ℕ → ℕ) → ((i : ℕ) → f i ≡ h i) → (g i : ℕ) → gathered f g i ≡ gathered h g i
 gathered-same f h e g i = ap (λ x. cond (eqb (i % g) 0) x 0) (total-same (λ a. f (i + a)) (λ a. h (i + a)) g (λ a l. e (i + a)))
 

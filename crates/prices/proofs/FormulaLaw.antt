@@ -15,6 +15,7 @@ use Rattle.prices.specs.Refusals.{is-rate}
 use Rattle.prices.proofs.Totals.{total-alike}
 use Rattle.prices.proofs.Under.{charge-under, bounded-by}
 
+-- as many cells as lie under the width, at the rate of the kind
 pub formula-charge : (a r k : ℕ) (w : Sides) → valid k w ≡ true → charge (formula a r) k w ≡ w .p * max (w .q) 1 * by-kind k a 1 r
 formula-charge a r k w v =
     let c : ℕ = by-kind k a 1 r in
@@ -24,9 +25,11 @@ formula-charge a r k w v =
     ∙ sym (mul-assoc (w .p) (max (w .q) 1) c)
 
 module _ (a r : ℕ) (rate-a : is-rate a ≡ true) (rate-r : is-rate r ≡ true) where
+  -- the bounds of the three factors
   sides-most : (k : ℕ) (w : Sides) → valid k w ≡ true → (w .p ≤ 64) × (max (w .q) 1 ≤ 24) × (by-kind k a 1 r ≤ 64)
   sides-most k w v = (grind (arith, tells), grind (arith, tells), grind (arith, tells))
 
+  -- so the product is bounded
   charge-most : (k : ℕ) (w : Sides) → valid k w ≡ true → charge (formula a r) k w ≤ 4194304
   charge-most k w v =
       let s = sides-most k w v in
@@ -34,6 +37,7 @@ module _ (a r : ℕ) (rate-a : is-rate a ≡ true) (rate-r : is-rate r ≡ true)
       let n = mul-le (w .p * max (w .q) 1) (by-kind k a 1 r) (64 * 24) 64 m (s .2) in
       rw (formula-charge a r k w v) (omega (arith, n))
 
+  -- no latency is 0, none above 255, and none shorter on a covering width
   late-least : (k : ℕ) (w : Sides) → k ≤ 1 → valid k w ≡ true → 1 ≤ latency (formula a r) k w
   unfolding latency
   late-least k w h v = grind (arith, tells)
@@ -46,6 +50,7 @@ module _ (a r : ℕ) (rate-a : is-rate a ≡ true) (rate-r : is-rate r ≡ true)
   unfolding latency covers
   late-rises k v w h a b c = grind (arith, tells)
 
+  -- the formula list is sound
   pub formula-sound : Sound (formula a r)
   formula-sound = record {
     least = late-least;

@@ -21,6 +21,7 @@ use Rattle.prices.proofs.Blocks.{by-grain, gathered, gathered-grid}
 abbrev across : ℕ → ℕ → ℕ
 across k g = cond (eqb k 1) g 1
 
+-- which is a grain too
 across-grain : (k g : ℕ) → is-grain g ≡ true → is-grain (across k g) ≡ true
 across-grain k g ok = grind (arith, tells)
 
@@ -28,6 +29,7 @@ across-grain k g ok = grind (arith, tells)
 abbrev Turns : ℕ → ℕ → ℕ → Type 0
 Turns k j g = (starts g (j + cond (eqb k 1) 1 0) ≡ eqb (j % across k g) 0) × (breadth g (j + cond (eqb k 1) 1 0) ≡ across k g)
 
+-- so it goes for the columns of every width
 turns : (k : ℕ) (w : Sides) → valid k w ≡ true → (j : ℕ) → j < max (w .q) 1 → (g : ℕ) → is-grain g ≡ true → Turns k j g
 turns k w v j l =
     by-grain (Turns k j)
@@ -36,10 +38,12 @@ turns k w v j l =
     (grind (arith, tells), grind (arith, tells))
     (grind (arith, tells), grind (arith, tells))
 
+-- the rounded width is a width
 pub valid-rounded : (k : ℕ) (w : Sides) → valid k w ≡ true → (g : ℕ) → is-grain g ≡ true → valid k (rounded g w) ≡ true
 valid-rounded k w v =
     by-grain (λ g. valid k (rounded g w) ≡ true) (grind (arith, tells)) (grind (arith, tells)) (grind (arith, tells)) (grind (arith, tells))
 
+-- and has as many columns as the rounded second side says
 breadth-rounded : (k : ℕ) (w : Sides) → valid k w ≡ true → (g : ℕ) → is-grain g ≡ true → up (across k g) (max (w .q) 1) ≡ max (up g (w .q)) 1
 breadth-rounded k w v =
     by-grain (λ g. up (across k g) (max (w .q) 1) ≡ max (up g (w .q)) 1) (grind (arith, tells)) (grind (arith, tells)) (grind (arith, tells)) (grind (arith, tells))
@@ -77,6 +81,7 @@ pub grain-latency : (g : ℕ) (P : Prices) (k : ℕ) (w : Sides) → latency P k
 unfolding latency
 grain-latency g P k w = refl
 
+-- a grain over a sound list is sound
 pub grain-sound : (g : ℕ) → is-grain g ≡ true → (P : Prices) → Sound P → Sound (grained g P)
 grain-sound g ok P d = record {
   least = λ k w h v. omega (arith, grain-latency g P k w, d .least k w h v);
@@ -109,6 +114,7 @@ cell-unstarted P g k c e =
     sym (cond-and (is-cell k c) (starts g (c .p) && starts g (c .q)) (block g (P .cell k) c))
     ∙ cond-false (is-cell k c && (starts g (c .p) && starts g (c .q))) _ 0 e
 
+-- what is no cell costs nothing
 pub cell-none : (P : Prices) (k : ℕ) (c : Sides) → is-cell k c ≡ false → cell-charge P k c ≡ 0
 unfolding cell-charge
 cell-none P k c v = cond-false (is-cell k c) _ 0 v

@@ -5,5 +5,5 @@ pub mod WaitLaw
 pub mod Blocks
 pub mod GrainLaw
 pub mod Found
-pub mod Rows
+pub mod Searches
 pub mod TableLaw

@@ -19,14 +19,17 @@ use Rattle.prices.proofs.Totals.{total-same, total-cut, total-cond, cond-and}
 abbrev pub place : ℕ → ℕ → ℕ → Sides
 place k i j = sides-of (i + 1) (j + cond (eqb k 1) 1 0)
 
+-- a width has no more rows and columns than its kind
 sides-fit : (k : ℕ) (w : Sides) → valid k w ≡ true → (w .p ≤ rows k) × (max (w .q) 1 ≤ columns k)
 unfolding rows columns
 sides-fit k w v = (grind (arith, tells), grind (arith, tells))
 
+-- the columns under a width are the first ones
 column-under : (k : ℕ) (w : Sides) → valid k w ≡ true → (j : ℕ) → j < columns k → leb (j + cond (eqb k 1) 1 0) (w .q) ≡ leb (j + 1) (max (w .q) 1)
 unfolding columns
 column-under k w v j l = grind (arith, tells)
 
+-- the cells under a width are the first ones along each side
 pub over-under : (k : ℕ) (w : Sides) (f : Sides → ℕ) → valid k w ≡ true
     → over k (λ c. cond (covers w c) (f c) 0) ≡ total (λ i. total (λ j. f (place k i j)) (max (w .q) 1)) (w .p)
 unfolding over covers
@@ -41,11 +44,13 @@ over-under k w f v =
     ∙ ap (λ z. cond (leb (i + 1) (w .p)) z 0) (total-cut (λ j. f (place k i j)) d (columns k) (s .1)))
     ∙ total-cut (λ i. total (λ j. f (place k i j)) d) (w .p) (rows k) (s .0)
 
+-- the same of a list's charges
 pub charge-under : (P : Prices) (k : ℕ) (w : Sides) → valid k w ≡ true
     → charge P k w ≡ total (λ i. total (λ j. P .cell k (place k i j)) (max (w .q) 1)) (w .p)
 unfolding charge
 charge-under P k w v = cond-true (valid k w) _ 0 v ∙ over-under k w (P .cell k) v
 
+-- what is no width costs nothing
 pub charge-none : (P : Prices) (k : ℕ) (w : Sides) → valid k w ≡ false → charge P k w ≡ 0
 unfolding charge
 charge-none P k w v = cond-false (valid k w) _ 0 v

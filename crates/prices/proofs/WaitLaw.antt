@@ -17,6 +17,7 @@ pub wait-charge : (s : ℕ) (P : Prices) (k : ℕ) (w : Sides) → charge P k w 
 unfolding charge
 wait-charge s P k w = refl
 
+-- of a cell too
 pub wait-cell : (s : ℕ) (P : Prices) (k : ℕ) (c : Sides) → cell-charge P k c ≡ cell-charge (waiting s P) k c
 unfolding cell-charge
 wait-cell s P k c = refl
@@ -28,10 +29,12 @@ wait-latency s P k w h v =
     let t : (leb k 1 && valid k w) ≡ true = and-from (leb k 1) (valid k w) (le-leb k 1 h) v in
     cond-true (leb k 1 && valid k w) _ 0 t ∙ ap (λ l. min (l + s) 255) (sym (cond-true (leb k 1 && valid k w) (P .late k w) 0 t))
 
+-- no latency passes 255
 late-most : (s : ℕ) (P : Prices) (k : ℕ) (w : Sides) → latency (waiting s P) k w ≤ 255
 unfolding latency
 late-most s P k w = grind (arith, tells)
 
+-- a wait over a sound list is sound
 pub wait-sound : (s : ℕ) (P : Prices) → Sound P → Sound (waiting s P)
 wait-sound s P d = record {
   least = λ k w h v. omega (arith, wait-latency s P k w h v, d .least k w h v);

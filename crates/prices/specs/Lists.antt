@@ -14,7 +14,8 @@ use Rattle.prices.specs.Prices.{Prices, Sound, charge}
 abbrev pub by-kind : {A : Type 0} → ℕ → A → A → A → A
 by-kind k adder multiplier register = cond (eqb k 0) adder (cond (eqb k 1) multiplier register)
 
--- a rate for each adder cell and each register cell, 1 for each multiplier cell
+-- a rate for each adder cell and each register cell, 1 for each multiplier cell; an adder takes 2 steps, a multiplier an
+-- eighth of the sum of its sides, rounded up
 abbrev pub formula : ℕ → ℕ → Prices
 formula a r = record {
   cell = λ k c. by-kind k a 1 r;

@@ -1,3 +1,4 @@
+-- Grain and wait keep soundness one at a time, so they do so in either order.
 use Rattle.prices.specs.Lists.{grained, waiting}
 use Rattle.prices.proofs.GrainLaw.{grain-sound, charge-rounded}
 use Rattle.prices.proofs.WaitLaw.{wait-sound}

@@ -1,3 +1,4 @@
+-- One row more is one term more.
 use native.Mathlib.Omega.{arith}
 use Prim.Native.Nat.{ℕ, _+_}
 use mathlib.Core.Path.{ap₂, sym, _∙_}

@@ -1,3 +1,4 @@
+-- The cell that is found has the sides asked for, and no cell of a sound list costs more than its widest width.
 use native.Mathlib.Omega.{arith}
 use mathlib.Core.Path.{_≡_, ap, sym, _∙_}
 use Rattle.widths.specs.Kinds.{is-cell}

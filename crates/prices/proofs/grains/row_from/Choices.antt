@@ -1,3 +1,4 @@
+-- The sum so far, and its bound, so that it does not wrap.
 use Prim.Native.Nat.{_+_, _*_, _≤_}
 use mathlib.Core.Path.{_≡_}
 use Rattle.widths.specs.Kinds.{sides-of}

@@ -1,3 +1,4 @@
+-- What the type says of each element.
 use native.Mathlib.Omega.{arith}
 use Rattle.prices.proofs.tables.all_fit.Needs as need
 

@@ -1,3 +1,4 @@
+-- A loop that stops has found the lowest row at fault, and one that runs to its end has found none.
 use native.Mathlib.Omega.{arith}
 use mathlib.Core.Path.{_≡_, ap, sym, _∙_}
 use mathlib.Core.Bool.{true, false}
@@ -5,7 +6,7 @@ use lib.ListN.{length}
 use Rattle.std.specs.declared.option.Option.the-variants.{None}
 use Rattle.prices.specs.Sums.{lowest}
 use Rattle.prices.specs.Refusals.{falls}
-use Rattle.prices.proofs.Rows.{lowest-more, lowest-found, lowest-none}
+use Rattle.prices.proofs.Searches.{lowest-more, lowest-found, lowest-none}
 use Rattle.prices.proofs.tables.fall_in.Needs as need
 
 pub returns-then-falls-at : need.returns-then-falls-at

@@ -1,3 +1,4 @@
+-- No row so far is at fault.
 use mathlib.Core.Path.{_≡_}
 use Rattle.std.specs.declared.option.Option.the-variants.{None}
 use Rattle.prices.specs.Sums.{lowest}

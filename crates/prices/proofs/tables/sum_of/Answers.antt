@@ -1,3 +1,4 @@
+-- One entry more is one term more.
 use native.Mathlib.Omega.{arith}
 use Prim.Native.Nat.{_+_, _≤_, _<_}
 use mathlib.Core.Path.{_≡_, ap₂, sym, _∙_}

@@ -1,3 +1,4 @@
+-- The definition opened: the rate where there is such a cell, else 0.
 use borrow.Author.Needs.{needs}
 use Rattle.prices.specs.Prices.{cell-charge}
 use Rattle.prices.proofs.formulas.Formula.cell_price.Needs as need

@@ -1,3 +1,4 @@
+-- The formula's charge is the product that the code makes.
 use mathlib.Core.Path.{sym}
 use Rattle.prices.specs.Lists.{formula}
 use Rattle.prices.proofs.FormulaLaw.{formula-charge}

@@ -1,3 +1,4 @@
+-- The definition opened: the steps by kind where there is such a width, else 0.
 use borrow.Author.Needs.{needs}
 use Rattle.prices.specs.Prices.{latency}
 use Rattle.prices.proofs.formulas.Formula.width_steps.Needs as need

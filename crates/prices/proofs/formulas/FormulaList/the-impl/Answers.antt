@@ -1,3 +1,4 @@
+-- The law of the formula at the rates that the list holds.
 use Rattle.prices.proofs.FormulaLaw.{formula-sound}
 use Rattle.prices.proofs.formulas.FormulaList.the-impl.Needs as need
 

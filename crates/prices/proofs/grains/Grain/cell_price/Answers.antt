@@ -1,3 +1,4 @@
+-- A cell that starts a block costs the block's cells, each of which the list below has; any other costs nothing.
 use borrow.Author.Needs.{needs}
 use Prim.Native.Nat.{ℕ, _+_}
 use mathlib.Core.Path.{_≡_, ap, ap₂, sym, _∙_}

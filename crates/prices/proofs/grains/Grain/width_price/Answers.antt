@@ -1,3 +1,4 @@
+-- The list below has the rounded width, and its charge is that of the grain's cells.
 use mathlib.Core.Path.{_≡_, ap, ap₂, sym, _∙_}
 use Rattle.widths.specs.declared.Sides.{Sides}
 use Rattle.widths.specs.Kinds.{sides-of, valid}

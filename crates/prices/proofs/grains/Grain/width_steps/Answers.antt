@@ -1,3 +1,4 @@
+-- A grain leaves latencies as they are.
 use mathlib.Core.Path.{_∙_}
 use Rattle.prices.proofs.GrainLaw.{grain-latency}
 use Rattle.prices.proofs.grains.Grain.width_steps.Needs as need

@@ -1,3 +1,4 @@
+-- The law of a grain from the law of the list below.
 use Rattle.prices.proofs.GrainLaw.{grain-sound}
 use Rattle.prices.proofs.grains.GrainList.the-impl.Needs as need
 

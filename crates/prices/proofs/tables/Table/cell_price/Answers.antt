@@ -1,3 +1,4 @@
+-- The charges of the kind are those that the code picks, and the cell of a first column costs its entry.
 use borrow.Author.Needs.{needs}
 use mathlib.Core.Path.{_≡_, ap, ap₂, sym, _∙_}
 use mathlib.Core.Bool.{true, false, _&&_}

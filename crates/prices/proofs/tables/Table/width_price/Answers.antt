@@ -1,3 +1,4 @@
+-- The charges of the kind are those that the code picks, and a width costs the first of them.
 use Prim.Native.Nat.{ℕ}
 use mathlib.Core.Path.{_≡_, ap, ap₂, sym, _∙_}
 use mathlib.Core.List.{List}

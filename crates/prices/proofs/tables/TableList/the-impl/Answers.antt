@@ -1,3 +1,4 @@
+-- The law of a table from what the list holds of its rows.
 use Rattle.prices.proofs.TableLaw.{table-sound}
 use Rattle.prices.proofs.tables.TableList.the-impl.Needs as need
 

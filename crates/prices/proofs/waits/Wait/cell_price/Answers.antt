@@ -1,3 +1,4 @@
+-- A wait leaves charges as they are.
 use mathlib.Core.Path.{_∙_}
 use Rattle.prices.proofs.WaitLaw.{wait-cell}
 use Rattle.prices.proofs.waits.Wait.cell_price.Needs as need

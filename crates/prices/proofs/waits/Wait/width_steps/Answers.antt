@@ -1,3 +1,4 @@
+-- Since the list below is sound, it answers 0 only where a wait answers 0 too.
 use native.Mathlib.Omega.{arith}
 use Rattle.prices.proofs.WaitLaw.{wait-none, wait-some}
 use Rattle.prices.proofs.waits.Wait.width_steps.Needs as need

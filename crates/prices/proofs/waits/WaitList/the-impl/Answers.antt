@@ -1,3 +1,4 @@
+-- The law of a wait from the law of the list below.
 use Rattle.prices.proofs.WaitLaw.{wait-sound}
 use Rattle.prices.proofs.waits.WaitList.the-impl.Needs as need
 
