@@ -4,6 +4,7 @@
 // plan is lawful, and a complete lawful plan can be entered in any order. `hire`, `dismiss`, `place` and `lift` change the
 // plan or are refused and change nothing; `charge` says what the hired units cost. Questions about the plan stand in
 // `questions.rt`.
+#![tactic(auto)]
 ghost use Rattle.std.specs.Prelude.{◌≡◌, ◌<◌, T, OnErr, OnOk, nat_lt};
 ghost use Rattle.std.specs.Result.{result_err};
 ghost use Rattle.graphs.specs.Graphs.{count};

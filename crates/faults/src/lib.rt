@@ -1,6 +1,8 @@
 // Faults: what every call of the product answers when it refuses.
 //
 // `Fault` has a case for each cause, with a number and a place; its `Display` is the line by which a program tells it.
+#![tactic(auto)]
+
 ghost use Rattle.std.specs.Prelude.{◌≡◌, Some};
 ghost use Rattle.faults.specs.declared.Fault.TheVariants.{OutOfMemory};
 ghost use Rattle.faults.specs.Faults.{number_of, place_of, line_of};

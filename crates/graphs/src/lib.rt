@@ -2,6 +2,7 @@
 //
 // There is hardly any code here. `specs/` says when a graph is well-formed, how its sheet is written and read, and what
 // values its operations have; `proofs/` has the laws of reading and of values, for the calls that promise them.
+#![tactic(auto)]
 
 // Where an operand comes from: an input, or an operation before this one, by number.
 #[derive(Clone, Copy, PartialEq, Eq, Debug)]

@@ -1,6 +1,7 @@
 // Plans and the law of the board that holds them: definitions and theorems, hardly any code.
 //
 // `Placing` is what a plan gives an operation; `Life` is how long a value stands in its register.
+#![tactic(auto)]
 ghost use Rattle.plans.specs.Law.{Law};
 
 // Where and when an operation runs, and the register that keeps its value.

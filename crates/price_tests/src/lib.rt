@@ -1,4 +1,5 @@
 // Tests of the price lists, in a crate of their own so that `prices` is not proved twice.
+#![tactic(auto)]
 #[cfg(test)]
 mod adjusted;
 #[cfg(test)]

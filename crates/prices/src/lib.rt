@@ -5,6 +5,8 @@
 // list answers 0. `adjustments_sound` promises what grain and wait keep of the list that they lie over.
 //
 // Each list computes its answers in private methods, whose proofs open the definitions; its `impl` hands them on.
+#![tactic(auto)]
+
 ghost use Rattle.std.specs.Prelude.{◌≡◌};
 ghost use Rattle.prices.specs.Prices.{Prices, Sound, cell_charge, charge, latency};
 ghost use Rattle.prices.specs.Lists.{AdjustsSoundly};

@@ -2,6 +2,8 @@
 //
 // `Kind` is what a kind of unit brings along: its own widths and its own number of cells. `Adder`, `Multiplier` and
 // `Register` are the kinds there are. `covers` and `lies_under` are one text for all of them.
+#![tactic(auto)]
+
 ghost use Rattle.std.specs.Prelude.{◌≡◌, ℕ, ◌&&◌, if◌then◌else◌, Some, None, nat_le};
 ghost use Rattle.std.specs.Option.{option_map};
 ghost use Rattle.widths.specs.declared.Sides.{Sides};

@@ -1,6 +1,7 @@
 // Words: numbers cut to a width, as units compute them and registers hold them.
 // To cut a number is to divide it by a power of two, rounded toward minus infinity, and to read the low bits of that as two's complement.
 // Exported: `cut`, for every number, drop and width, and `cut_laws`, whose contract states the laws of cut numbers.
+#![tactic(auto)]
 
 ghost use Rattle.std.specs.Prelude.{◌≡◌, ℕ, ◌^◌, ◌≤◌, ℤ};
 ghost use Rattle.words.specs.Cut.{cut_to, floor_div, floor_mod, signed_of};

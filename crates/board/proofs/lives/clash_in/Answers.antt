@@ -6,13 +6,13 @@ use Rattle.board.proofs.Meetings.{alone, lone}
 use Rattle.board.proofs.lives.clash_in.Goals as goal
 
 pub loop-y-preserved : goal.loop-y-preserved
-loop-y-preserved c = (c.loop-y.invariant.0, any_more _ c.loop-y.y c.loop-y.invariant.1 (sym c.if-is-shared.ensures))
+loop-y-preserved c = (c.loop-y.invariant.0, any_more _ c.loop-y.y c.loop-y.invariant.1 (sym c.if-is_shared.ensures))
 
 pub loop-x-preserved : goal.loop-x-preserved
 loop-x-preserved c = (c.loop-y.invariant.0, any_more _ c.loop-x.x c.loop-x.invariant.1 (any_end _ c.loop-y.y c.loop-x.x c.loop-y.invariant.1 (omega arith) (omega arith)))
 
-pub loop-x-preserved-then-not-is-in : goal.loop-x-preserved-then-not-is-in
-loop-x-preserved-then-not-is-in c = (c.loop-x.invariant.0, any_more _ c.loop-x.x c.loop-x.invariant.1 (alone c.registers.q (get_or c.args.lives.now c.loop-x.x None) c.args.lives.now c.loop-x.x (sym c.if-not-is-in.ensures)))
+pub loop-x-preserved-then-not-is_in : goal.loop-x-preserved-then-not-is_in
+loop-x-preserved-then-not-is_in c = (c.loop-x.invariant.0, any_more _ c.loop-x.x c.loop-x.invariant.1 (alone c.registers.q (get_or c.args.lives.now c.loop-x.x None) c.args.lives.now c.loop-x.x (sym c.if-not-is_in.ensures)))
 
 pub registers-preserved-then-crowd-q-lt2 : goal.registers-preserved-then-crowd-q-lt2
 registers-preserved-then-crowd-q-lt2 c = (c.registers.invariant.0, lowest_more _ c.registers.q c.registers.invariant.1 (lone c.registers.q c.args.lives.now c.args.count (omega (arith, c.requires.1.1 c.registers.q (omega arith)))))
@@ -23,7 +23,7 @@ registers-preserved c = (c.loop-x.invariant.0, lowest_more _ c.registers.q c.reg
 pub returns-after-registers : goal.returns-after-registers
 returns-after-registers c = c.registers.invariant.0 ∙ sym (units_none _ c.registers.q c.registers.invariant.1 (omega arith) (omega arith))
 
-pub returns-then-is-shared : goal.returns-then-is-shared
-returns-then-is-shared c =
+pub returns-then-is_shared : goal.returns-then-is_shared
+returns-then-is_shared c =
     sym (units_hit _ c.registers.q (omega arith) c.registers.invariant.1
-    (any_hit _ c.args.count c.loop-x.x (omega arith) (any_hit _ c.loop-x.x c.loop-y.y (omega arith) (sym c.if-is-shared.ensures))))
+    (any_hit _ c.args.count c.loop-x.x (omega arith) (any_hit _ c.loop-x.x c.loop-y.y (omega arith) (sym c.if-is_shared.ensures))))

@@ -5,10 +5,10 @@ use Rattle.sheet.specs.Jobs.{graph_of}
 use Rattle.board.specs.Tables.{plan_of}
 use Rattle.board.proofs.questions.unplaced.Goals as goal
 
-pub returns-then-is-none : goal.returns-then-is-none
-returns-then-is-none c = λ whole.
+pub returns-then-is_none : goal.returns-then-is_none
+returns-then-is_none c = λ whole.
     let w = whole c.loop-o.o (omega (arith, ap length c.operations-o-end.ensures)) in
-    none_some (sym (absent c.entry.result c.if-is-none.ensures) ∙ c.entry.ensures ∙ w.1)
+    none_some (sym (absent c.entry.result c.if-is_none.ensures) ∙ c.entry.ensures ∙ w.1)
 
 pub returns : goal.returns
 returns c = λ o h. there ((plan_of c.args.tables.now).placed o) (c.loop-o.invariant o (omega (arith, ap length c.operations-o-end.ensures)))

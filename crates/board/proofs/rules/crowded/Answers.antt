@@ -5,8 +5,8 @@ use Rattle.sheet.specs.Jobs.{graph_of}
 use Rattle.prices.proofs.Searches.{lowest_more, lowest_found}
 use Rattle.board.proofs.rules.crowded.Goals as goal
 
-pub returns-then-is-crowding : goal.returns-then-is-crowding
-returns-then-is-crowding g c = sym (lowest_found _ c.loop-e.e (count (graph_of c.args.job.now)) c.loop-e.invariant (sym c.if-is-crowding.ensures) (omega (arith, ap length c.operations-e-end.ensures)))
+pub returns-then-is_crowding : goal.returns-then-is_crowding
+returns-then-is_crowding g c = sym (lowest_found _ c.loop-e.e (count (graph_of c.args.job.now)) c.loop-e.invariant (sym c.if-is_crowding.ensures) (omega (arith, ap length c.operations-e-end.ensures)))
 
 pub loop-e-preserved : goal.loop-e-preserved
-loop-e-preserved g c = lowest_more _ c.loop-e.e c.loop-e.invariant (sym c.if-is-crowding.ensures)
+loop-e-preserved g c = lowest_more _ c.loop-e.e c.loop-e.invariant (sym c.if-is_crowding.ensures)

@@ -5,8 +5,8 @@ use Rattle.sheet.specs.Jobs.{graph_of}
 use Rattle.prices.proofs.Searches.{lowest_more, lowest_found}
 use Rattle.board.proofs.rules.serving.Goals as goal
 
-pub returns-then-is-served : goal.returns-then-is-served
-returns-then-is-served c = sym (lowest_found _ c.loop-o.o (count (graph_of c.args.job.now)) c.loop-o.invariant (sym c.if-is-served.ensures) (omega (arith, ap length c.operations-o-end.ensures)))
+pub returns-then-is_served : goal.returns-then-is_served
+returns-then-is_served c = sym (lowest_found _ c.loop-o.o (count (graph_of c.args.job.now)) c.loop-o.invariant (sym c.if-is_served.ensures) (omega (arith, ap length c.operations-o-end.ensures)))
 
 pub loop-o-preserved : goal.loop-o-preserved
-loop-o-preserved c = lowest_more _ c.loop-o.o c.loop-o.invariant (sym c.if-is-served.ensures)
+loop-o-preserved c = lowest_more _ c.loop-o.o c.loop-o.invariant (sym c.if-is_served.ensures)

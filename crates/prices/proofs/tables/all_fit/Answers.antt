@@ -3,4 +3,4 @@ use Rattle.std.proofs.Common.{arith}
 use Rattle.prices.proofs.tables.all_fit.Goals as goal
 
 pub returns : goal.returns
-returns c = λ i. omega (arith, (c.type-inv.charges i).fits)
+returns c = λ i. omega (arith, (c.type_inv.charges i).fits)

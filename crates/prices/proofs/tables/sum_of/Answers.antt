@@ -11,5 +11,5 @@ loop-charge-preserved c =
     let n = c.from.result in
     let front : i < n = omega (arith, length-take n xs) in
     let here : c.from-sum.result ≡ get_or xs i 0 = c.from-sum.ensures ∙ get_or-take n xs i 0 front in
-    let small : get_or xs i 0 ≤ 65535 = omega (arith, (c.type-inv.charges i).fits) in
+    let small : get_or xs i 0 ≤ 65535 = omega (arith, (c.type_inv.charges i).fits) in
     (ap₂ ◌+◌ c.loop-charge.invariant.0 here ∙ sym (total_next (λ n. get_or xs n 0) i), omega arith)

@@ -11,14 +11,14 @@ loop-at-init c = (omega arith, verdict_start c.args.bytes.now ∙ ap (λ d. verd
 
 pub loop-at-preserved : goal.loop-at-preserved
 loop-at-preserved c =
-    let s = c.in-ok-at.ensures in
+    let s = c.in_ok-at.ensures in
     (s.1, c.loop-at.invariant.1 ∙ s.2)
 
-pub returns-in-err-at : goal.returns-in-err-at
-returns-in-err-at c =
-    let p = err_from_is_err_and c.from-residual.result c.from-residual.ensures.1 in
+pub returns-in_err-at : goal.returns-in_err-at
+returns-in_err-at c =
+    let p = err_from_is_err_and c.from_residual.result c.from_residual.ensures.1 in
     record {
-      answer = rw (p.1, p.2) (read_told c.args.bytes.now (sofar c.loop-at.draft) c.loop-at.at c.loop-at.invariant.1 c.in-err-at.field-0.0 c.in-err-at.ensures);
+      answer = rw (p.1, p.2) (read_told c.args.bytes.now (sofar c.loop-at.draft) c.loop-at.at c.loop-at.invariant.1 c.in_err-at.field-0.0 c.in_err-at.ensures);
       law = reading_law c.args.bytes.now;
     }
 

@@ -5,8 +5,8 @@ use Rattle.sheet.proofs.Formed.{formed}
 use Rattle.graphs.proofs.Valued.{value_ready, value_more, value_all}
 use Rattle.sheet.proofs.values.fill.Goals as goal
 
-pub operation-value-value-requires : goal.operation-value-value-requires
-operation-value-value-requires c =
+pub operation_value-value-requires : goal.operation_value-value-requires
+operation_value-value-requires c =
     let j = c.args.job.now in
     let ops = ap length c.deref-operation-items.ensures.value in
     let far : c.loop-o.o ≤ length c.loop-o.values = omega (arith, ops, c.requires.1, c.loop-o.auto.values, c.loop-o-test.true) in (
@@ -19,7 +19,7 @@ loop-o-preserved c =
     let j = c.args.job.now in
     let ops = ap length c.deref-operation-items.ensures.value in
     let far : c.loop-o.o < length c.args.values.now = omega (arith, ops, c.requires.1, c.loop-o-test.true) in
-    value_more (graph_of j) (formed j) c.args.samples.now c.deref.result.now c.deref-operation-items.result.now c.deref.ensures.value c.deref-operation-items.ensures.value c.loop-o.o c.loop-o-test.true c.loop-o.values c.args.values.now c.operation-value-value.result (record { sfits = c.operation-value-value.type-inv }) c.operation-value-value.ensures c.loop-o.invariant far
+    value_more (graph_of j) (formed j) c.args.samples.now c.deref.result.now c.deref-operation-items.result.now c.deref.ensures.value c.deref-operation-items.ensures.value c.loop-o.o c.loop-o-test.true c.loop-o.values c.args.values.now c.operation_value-value.result (record { sfits = c.operation_value-value.type_inv }) c.operation_value-value.ensures c.loop-o.invariant far
 
 pub returns : goal.returns
 returns c =

@@ -3,8 +3,8 @@ use Rattle.std.proofs.lemmas.Int.{to_z-of_z}
 use Rattle.words.proofs.Sizes.{product_fits, through}
 use Rattle.sheet.proofs.values.multiplied.Goals as goal
 
-pub overflow-mul-result : goal.overflow-mul-result
-overflow-mul-result c =
+pub overflow_mul-result : goal.overflow_mul-result
+overflow_mul-result c =
     subst (λ z. SFits w64 (z *ℤ to_z w64 (of_z w64 c.args.b))) (sym (to_z-of_z w64 c.args.a c.ranges.a))
     (subst (λ z. SFits w64 (c.args.a *ℤ z)) (sym (to_z-of_z w64 c.args.b c.ranges.b)) (product_fits c.args.a c.args.b c.requires.0 c.requires.1))
 

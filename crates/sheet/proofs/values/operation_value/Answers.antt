@@ -10,8 +10,8 @@ added-requires c =
     let p = c.in-Add.p in
     let good = ap (good_operation (length c.args.inputs.now) (length c.args.values.now)) (sym c.in-Add.is) ∙ c.requires.1 in
     let w = adder_ports p (and_parts (valid 0 (sides_of p 0)) _ good).0 in (
-      port_small c.operand-value-x.result _ _ p 39 (record { sfits = c.operand-value-x.type-inv }) c.operand-value-x.ensures w.0 w.1,
-      port_small c.operand-value-y.result _ _ p 39 (record { sfits = c.operand-value-y.type-inv }) c.operand-value-y.ensures w.0 w.1,
+      port_small c.operand_value-x.result _ _ p 39 (record { sfits = c.operand_value-x.type_inv }) c.operand_value-x.ensures w.0 w.1,
+      port_small c.operand_value-y.result _ _ p 39 (record { sfits = c.operand_value-y.type_inv }) c.operand_value-y.ensures w.0 w.1,
     )
 
 pub multiplied-requires : goal.multiplied-requires
@@ -20,6 +20,6 @@ multiplied-requires c =
     let q = c.in-Multiply.q in
     let good = ap (good_operation (length c.args.inputs.now) (length c.args.values.now)) (sym c.in-Multiply.is) ∙ c.requires.1 in
     let w = multiplier_ports p q (and_parts (valid 1 (sides_of p q)) _ good).0 in (
-      port_small c.operand-value-x-in-Multiply.result _ _ p 39 (record { sfits = c.operand-value-x-in-Multiply.type-inv }) c.operand-value-x-in-Multiply.ensures w.0.0 w.0.1,
-      port_small c.operand-value-y-in-Multiply.result _ _ q 23 (record { sfits = c.operand-value-y-in-Multiply.type-inv }) c.operand-value-y-in-Multiply.ensures w.1.0 w.1.1,
+      port_small c.operand_value-x-in-Multiply.result _ _ p 39 (record { sfits = c.operand_value-x-in-Multiply.type_inv }) c.operand_value-x-in-Multiply.ensures w.0.0 w.0.1,
+      port_small c.operand_value-y-in-Multiply.result _ _ q 23 (record { sfits = c.operand_value-y-in-Multiply.type_inv }) c.operand_value-y-in-Multiply.ensures w.1.0 w.1.1,
     )

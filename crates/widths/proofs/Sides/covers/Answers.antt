@@ -2,10 +2,10 @@ use Rattle.std.proofs.Common.{rules}
 use Rattle.widths.specs.Kinds.{covers}
 use Rattle.widths.proofs.Sides.covers.Goals as goal
 
-pub returns-then-no-larger : goal.returns-then-no-larger
+pub returns-then-no_larger : goal.returns-then-no_larger
 unfolding covers
-returns-then-no-larger c = search rules
+returns-then-no_larger c = search rules
 
-pub returns-else-no-larger : goal.returns-else-no-larger
+pub returns-else-no_larger : goal.returns-else-no_larger
 unfolding covers
-returns-else-no-larger c = search rules
+returns-else-no_larger c = search rules

@@ -3,10 +3,10 @@ use Rattle.std.proofs.Common.{rules}
 use Rattle.prices.specs.Prices.{cell_charge}
 use Rattle.prices.proofs.formulas.Formula.cell_price.Goals as goal
 
-pub returns-then-is-cell : goal.returns-then-is-cell
+pub returns-then-is_cell : goal.returns-then-is_cell
 unfolding cell_charge
-returns-then-is-cell g c = search rules
+returns-then-is_cell g c = search rules
 
-pub returns-else-is-cell : goal.returns-else-is-cell
+pub returns-else-is_cell : goal.returns-else-is_cell
 unfolding cell_charge
-returns-else-is-cell g c = search rules
+returns-else-is_cell g c = search rules

@@ -15,12 +15,12 @@ returns-then-s-le1 g c =
     let b : s.q ≤ 1 = search rules in
     let charges : c.charges.result.now ≡ by_kind k x.adders x.firsts x.registers =
     c.charges.ensures.value ∙ ap (λ n. by_kind n x.adders x.firsts x.registers) c.number.ensures in
-    c.from.ensures ∙ c.charge-at.ensures
+    c.from.ensures ∙ c.charge_at.ensures
     ∙ ap₂ row_of charges (ap (λ (s : Sides). s.p) c.sides-s.ensures)
     ∙ sym (table_cell x.adders x.firsts x.registers x.adder_steps x.multiplier_steps k s a b)
 
-pub returns-else-is-cell : goal.returns-else-is-cell
-returns-else-is-cell g c =
+pub returns-else-is_cell : goal.returns-else-is_cell
+returns-else-is_cell g c =
     let x = c.args.self.now in
     let k = g.K.Kind.code in
     let s = g.K.Kind.shape c.args.c in
