@@ -2,6 +2,7 @@
 //
 // `Placing` is what a plan gives an operation; `Life` is how long a value stands in its register.
 #![tactic(auto)]
+
 ghost use Rattle.plans.specs.Law.{Law};
 
 // Where and when an operation runs, and the register that keeps its value.

@@ -3,6 +3,7 @@
 // `Job` is a graph that was read and found well-formed. `Job::read` makes one from any byte string or refuses it,
 // and the questions `limit`, `inputs`, `operations` and `outputs` look at it.
 #![tactic(auto)]
+
 ghost use Rattle.std.specs.Prelude.{◌≡◌, ℕ, ◌<◌, ◌≤◌, true, vec_len, slice_index, slice_index_or};
 ghost use Rattle.graphs.specs.Graphs.{good_operation, no_operation};
 
