@@ -5,12 +5,13 @@
 // plan or are refused and change nothing; `charge` says what the hired units cost. Questions about the plan stand in
 // `questions.rt`.
 #![tactic(auto)]
+
 ghost use Rattle.std.specs.Prelude.{◌≡◌, ◌<◌, T, OnErr, OnOk, nat_lt};
 ghost use Rattle.std.specs.Result.{result_err};
 ghost use Rattle.graphs.specs.Graphs.{count};
 ghost use Rattle.prices.specs.Sums.{first_of};
 ghost use Rattle.plans.specs.Plans.{empty};
-ghost use Rattle.plans.specs.Calls.{hire as to-hire, dismiss as to-dismiss, place as to-place, lift as to-lift, place-tests, place_causes, verdict, after};
+ghost use Rattle.plans.specs.Calls.{hire as to-hire, dismiss as to-dismiss, place as to-place, lift as to-lift, place_causes, verdict, after};
 ghost use Rattle.plans.specs.Law.{BoardLaw};
 ghost use Rattle.sheet.specs.Jobs.{graph_of};
 ghost use Rattle.board.specs.Boards.{job_on, graph_on, list_on, plan_on};
@@ -119,7 +120,7 @@ impl<L: PriceList> Board<L> {
             start,
             register,
         };
-        self.admit(operation, p)?;
+        self.judge(operation, p)?;
         self.tables.put(operation, Some(p));
         Ok(())
     }
@@ -149,17 +150,9 @@ impl<L: PriceList> Board<L> {
         (operation as usize) < self.job.operations().len()
     }
 
-    // Whether the placing may be added.
-    fn admit(&self, operation: u8, p: Placing) -> Result<(), Fault>
-        ensures answer { result_err result ≡ first_of (place_causes (graph_on self.now) (L.PriceList.prices (list_on self.now)) (plan_on self.now) operation p) }
-        ensures there { OnOk result (operation < 64) }
-    {
-        self.judge(operation, p)
-    }
-
     // Every cause for which a placing can be refused, in the order of their numbers.
     fn judge(&self, operation: u8, p: Placing) -> Result<(), Fault>
-        ensures answer { result_err result ≡ first_of (place-tests (graph_on self.now) (L.PriceList.prices (list_on self.now)) (plan_on self.now) operation p) }
+        ensures answer { result_err result ≡ first_of (place_causes (graph_on self.now) (L.PriceList.prices (list_on self.now)) (plan_on self.now) operation p) }
         ensures there { OnOk result (operation < 64) }
     {
         let o = operation as usize;

@@ -2,6 +2,7 @@
 //
 // A span says between which steps an operation can start; the floor is a charge that no complete lawful plan undercuts.
 #![tactic(auto)]
+
 ghost use Rattle.floors.specs.Figures.{Floored};
 ghost use Rattle.floors.specs.Law.{Law};
 

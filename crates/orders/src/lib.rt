@@ -3,6 +3,7 @@
 // `lines` makes the whole answer. A refused sheet, a byte of no request and a request that is cut short end it after their
 // own line; a call that the board refuses is told and the next one is made.
 #![tactic(auto)]
+
 ghost use Rattle.std.specs.Prelude.{◌≡◌, take, string_bytes, MatchResult};
 ghost use Rattle.faults.specs.declared.Fault.TheVariants.{OutOfMemory};
 ghost use Rattle.orders.specs.Orders.{order_text, most_bytes};

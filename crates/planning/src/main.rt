@@ -1,5 +1,6 @@
 // Makes a whole plan for a sheet: the calls that make it, with their answers, what it costs, and its schedule as a chart.
 #![tactic(auto)]
+
 use board::Board;
 use faults::Fault;
 use prices::{Formula, PriceList};

@@ -1,6 +1,7 @@
 // Walks through the job sheets of two filters: what each sheet says, command by command, and the value of each of its
 // operations and outputs for some frames of samples. At the end it shows how damaged copies of a sheet are refused.
 #![tactic(auto)]
+
 mod costs;
 mod damage;
 mod show;
