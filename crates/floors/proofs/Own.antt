@@ -20,7 +20,7 @@ use Rattle.plans.proofs.Rules.{Rules, arithmetic, reads_earlier}
 use Rattle.floors.specs.Spans.{own_steps, first_source, second_source, there_at, earliest_within, earliest}
 use Rattle.floors.proofs.Cells.{covers_refl}
 use Rattle.floors.proofs.Shapes.{shape, reads_either}
-use Rattle.floors.proofs.Times.{left_within, left}
+use Rattle.floors.proofs.Times.{left}
 
 flag_some : {A : Type 0} (b : Bool) (x y : A) → flag b x ≡ Some y → (b ≡ true) × (x ≡ y)
 flag_some true x y e = (refl, some_same e)

@@ -1,5 +1,5 @@
 -- What a well_formed graph says of an operation: its width is one of its kind, and its operands come before it.
-use Rattle.std.proofs.Common.{◌≡◌, ℕ, ◌<◌, true, ◌&&◌, ◌||◌, leb, ◌⊎◌, length, sym, refl, ◌∙◌}
+use Rattle.std.proofs.Common.{◌≡◌, ℕ, ◌<◌, true, ◌||◌, leb, ◌⊎◌, length, sym, refl, ◌∙◌}
 use Rattle.std.proofs.lemmas.Bool.{and_parts, ltb-true, or_left, or_right, or_cases}
 use Rattle.widths.specs.Kinds.{sides_of, valid}
 use Rattle.graphs.specs.declared.Source.{Source}
@@ -8,7 +8,7 @@ use Rattle.graphs.specs.declared.Operand.{Operand}
 use Rattle.graphs.specs.declared.Operation.{Operation}
 use Rattle.graphs.specs.declared.Operation.TheVariants.{Add, Multiply}
 use Rattle.graphs.specs.Graphs.{Graph, WellFormed, operation_at, count, kind_of, width_of, is_named, good_operand, good_operation}
-use Rattle.plans.specs.Plans.{names, operation_reads, reads, kind_at, own_at}
+use Rattle.plans.specs.Plans.{names, operation_reads, reads}
 use Rattle.floors.specs.Spans.{first_source, second_source}
 
 -- a source that names an operation names one before o

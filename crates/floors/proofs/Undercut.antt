@@ -1,5 +1,5 @@
 -- No complete lawful plan charges less than the floor: the need of a cell in a window is at most the window's steps for each unit that covers the cell.
-use Rattle.std.proofs.Common.{◌≡◌, ℕ, suc, ◌+◌, ◌-◌, ◌*◌, ◌/◌, ◌<◌, ◌≤◌, true, cond, ◌&&◌, eqb, ◌⊎◌, Some, sym, ap, ◌∙◌, inl, inr, le_trans, mul-le-mul_right, suc-mul, mul_comm, div-lt_iff_lt-mul, mul-le-mul_left, arith}
+use Rattle.std.proofs.Common.{◌≡◌, ℕ, suc, ◌+◌, ◌-◌, ◌*◌, ◌/◌, ◌<◌, ◌≤◌, true, cond, eqb, ◌⊎◌, Some, sym, ◌∙◌, inl, inr, le_trans, mul-le-mul_right, suc-mul, mul_comm, div-lt_iff_lt-mul, mul-le-mul_left, arith}
 use Rattle.std.proofs.lemmas.Bool.{eqb-true, and_parts}
 use Rattle.widths.specs.declared.Sides.{Sides}
 use Rattle.widths.specs.Kinds.{covers}

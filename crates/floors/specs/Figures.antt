@@ -1,5 +1,5 @@
 -- Worked figures of the floor.
-use Rattle.std.specs.Prelude.{◌≡◌, ℕ, List, [], ◌∷◌, Ok, Err}
+use Rattle.std.specs.Prelude.{◌≡◌, ℕ, [], ◌∷◌, Ok, Err}
 use Rattle.faults.specs.declared.Fault.TheVariants.{NoTime}
 use Rattle.prices.specs.Prices.{Prices}
 use Rattle.prices.specs.Lists.{formula}

@@ -1,5 +1,6 @@
 // Reads an order from standard input and prints the lines that answer it.
 #![tactic(auto)]
+
 use orders::{MOST_BYTES, lines};
 use std::io;
 use std::io::Read;

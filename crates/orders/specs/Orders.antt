@@ -10,7 +10,7 @@ use Rattle.prices.specs.Prices.{Prices}
 use Rattle.prices.specs.Lists.{formula}
 use Rattle.plans.specs.Plans.{Plan, empty}
 use Rattle.plans.specs.Charges.{plan_charge}
-use Rattle.plans.specs.Calls.{Call, hire, dismiss, place, lift, verdict, after}
+use Rattle.plans.specs.Calls.{hire, dismiss, place, lift, verdict, after}
 use Rattle.orders.specs.declared.requests.Request.{Request}
 use Rattle.orders.specs.declared.requests.Request.TheVariants.{Hire, Dismiss, Place, Lift, Charge}
 

@@ -1,5 +1,5 @@
 -- Hiring, and dismissing what serves nothing, keeps a plan lawful.
-use Rattle.std.proofs.Common.{◌≡◌, ℕ, ◌+◌, ◌<◌, ◌≤◌, true, false, not, ◌&&◌, eqb, Some, None, Option, sym, ap, ◌∙◌, inl, inr}
+use Rattle.std.proofs.Common.{◌≡◌, ℕ, ◌+◌, ◌<◌, ◌≤◌, true, false, ◌&&◌, eqb, Some, None, Option, sym, ap, ◌∙◌, inl, inr}
 use Rattle.widths.specs.declared.Sides.{Sides}
 use Rattle.widths.specs.Kinds.{sides_of, valid, first_side, second_side}
 use Rattle.graphs.specs.Graphs.{Graph, count}

@@ -4,7 +4,7 @@ use Rattle.graphs.specs.Graphs.{Graph, count}
 use Rattle.prices.specs.Prices.{Prices}
 use Rattle.plans.specs.declared.Placing.{Placing}
 use Rattle.prices.specs.Sums.{most}
-use Rattle.plans.specs.Plans.{Plan, kind_at, reads, start_of, register, steps_of, finish_with, finish, last}
+use Rattle.plans.specs.Plans.{Plan, kind_at, reads, start_of, steps_of, finish_with, finish, last}
 use Rattle.plans.specs.Law.{Part}
 use Rattle.std.proofs.lemmas.Bool.{cases_lt}
 use Rattle.plans.proofs.Rules.{Rules}

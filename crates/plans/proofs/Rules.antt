@@ -6,7 +6,6 @@ use Rattle.graphs.specs.Graphs.{Graph, WellFormed, count}
 use Rattle.prices.specs.Prices.{Prices, Sound}
 use Rattle.plans.specs.declared.Placing.{Placing}
 use Rattle.std.proofs.lemmas.Bool.{cases_lt, cases_eq, and_parts, or_cases, ltb-true, eqb-true}
-use Rattle.widths.specs.Kinds as kinds
 use Rattle.graphs.specs.declared.Source.{Source}
 use Rattle.graphs.specs.declared.Source.TheVariants.{Input, Earlier}
 use Rattle.graphs.specs.declared.Operand.{Operand}

@@ -1,6 +1,6 @@
 -- Sums over blocks: where the terms of each block of g are gathered at its first place, the sum of the first n terms is the
 -- plain sum up to the next multiple of g. On a grid of cells this holds along each side, and so for both.
-use Rattle.std.specs.Prelude.{◌≡◌, ℕ, zero, suc, ◌+◌, ◌-◌, ◌%◌, true, cond, ◌⊎◌, ◌==◌, ◌≢◌, refl}
+use Rattle.std.specs.Prelude.{◌≡◌, ℕ, zero, suc, ◌+◌, ◌%◌, true, cond, ◌⊎◌, ◌==◌, ◌≢◌, refl}
 use Rattle.std.proofs.Common.{arith, ap, sym, subst, ◌∙◌, inl, inr}
 use Rattle.std.proofs.lemmas.Bool.{cases_eq, cond-true, cond-false, eq-eqb, ne_eqb}
 use Rattle.std.proofs.lemmas.Bool.Decides.{nat_tests}

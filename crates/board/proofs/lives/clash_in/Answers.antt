@@ -1,5 +1,5 @@
 -- A value that does not stand in the register meets no other there; the rest is search from below.
-use Rattle.std.proofs.Common.{◌≡◌, get_or, None, sym, ◌∙◌, arith}
+use Rattle.std.proofs.Common.{get_or, None, sym, ◌∙◌, arith}
 use Rattle.prices.proofs.Searches.{lowest_more}
 use Rattle.board.proofs.Searches.{any_more, any_hit, any_end, units_none, units_hit}
 use Rattle.board.proofs.Meetings.{alone, lone}

@@ -1,5 +1,5 @@
 -- No two lives meet in the registers so far, then among the values so far, then of one value with those so far before it.
-use Rattle.std.proofs.Common.{◌≡◌, true, false, get_or, None}
+use Rattle.std.proofs.Common.{◌≡◌, false, get_or, None}
 use Rattle.prices.specs.Sums.{any, lowest}
 use Rattle.plans.specs.Calls.{meet}
 use Rattle.board.proofs.lives.clash_in.Given as goal

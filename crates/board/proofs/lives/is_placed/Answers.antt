@@ -1,4 +1,4 @@
-use Rattle.std.proofs.Common.{is_some, sym, ap, ◌∙◌}
+use Rattle.std.proofs.Common.{is_some, ap, ◌∙◌}
 use Rattle.board.proofs.Writes.{placed_low}
 use Rattle.board.proofs.lives.is_placed.Goals as goal
 

@@ -1,7 +1,6 @@
-use Rattle.std.proofs.Common.{length, is_some, sym, ap, ◌∙◌, arith}
+use Rattle.std.proofs.Common.{length, sym, ap, ◌∙◌, arith}
 use Rattle.prices.proofs.Searches.{none_some}
 use Rattle.plans.proofs.Placings.{there, absent}
-use Rattle.sheet.specs.Jobs.{graph_of}
 use Rattle.board.specs.Tables.{plan_of}
 use Rattle.board.proofs.questions.unplaced.Goals as goal
 

@@ -1,4 +1,4 @@
-use Rattle.std.proofs.Common.{◌++◌, string_bytes}
+use Rattle.std.proofs.Common.{string_bytes}
 use Rattle.sheet.specs.Jobs.{graph_of}
 use Rattle.board.specs.Boards.{graph_on, list_on, plan_on}
 use Rattle.orders.specs.Orders.{answer_to, plan_then, line, answers_from}
