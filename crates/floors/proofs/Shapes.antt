@@ -1,4 +1,4 @@
--- What a well_formed graph says of an operation: its width is one of its kind, and its operands come before it.
+-- What a well-formed graph says of an operation: its width is one of its kind, and its operands come before it.
 use Rattle.std.proofs.Common.{◌≡◌, ℕ, ◌<◌, true, ◌||◌, leb, ◌⊎◌, length, sym, refl, ◌∙◌}
 use Rattle.std.proofs.lemmas.Bool.{and_parts, ltb-true, or_left, or_right, or_cases}
 use Rattle.widths.specs.Kinds.{sides_of, valid}

@@ -1,4 +1,4 @@
--- Every well_formed graph is read back from its writing: from the end of the bytes to their front, each command is taken and leaves the rest to read.
+-- Every well-formed graph is read back from its writing: from the end of the bytes to their front, each command is taken and leaves the rest to read.
 use Rattle.std.proofs.Common.{◌≡◌, ℕ, ◌+◌, ◌-◌, ◌<◌, ◌≤◌, Bool, true, false, not, leb, List, [], ◌∷◌, ◌++◌, length, get_or, Some, Ok, sym, refl, ap, ◌∙◌, subst, ap₂, append_assoc, arith}
 use Rattle.std.proofs.lemmas.List.{append-nil, get_or_at, length-append}
 use Rattle.std.proofs.lemmas.Bool.{and_parts, and_from, lt-ltb, le-leb, ne_eqb, not_from_false}

@@ -1,4 +1,4 @@
--- What is read is well_formed and was written so: both hold of what was read so far, command by command, with the bytes so far as the writing.
+-- What is read is well-formed and was written so: both hold of what was read so far, command by command, with the bytes so far as the writing.
 use Rattle.std.proofs.Common.{◌≡◌, ℕ, zero, suc, ◌+◌, ◌-◌, ◌<◌, ◌≤◌, Bool, true, false, cond, not, ltb, leb, List, [], ◌∷◌, ◌++◌, length, get_or, drop, is_some, Some, None, Ok, Err, Option, unwrap_or, sym, refl, ap, ◌∙◌, subst, ap₂, inl, inr, append_assoc, arith}
 use Rattle.std.proofs.lemmas.List.{append-nil, flat_map_more, get_or_append_left, get_or_push, length_push, nil_from_length}
 use Rattle.std.proofs.lemmas.Bool.{cases_lt, eqb-true, eqb-false, not-true, leb-true, ltb-true, and_parts, and_from}
@@ -19,7 +19,7 @@ use Rattle.graphs.specs.Writing.{input_bytes, operation_bytes, output_bytes, wri
 use Rattle.graphs.proofs.Scripts.{begun_short, begun_whole}
 use Rattle.graphs.proofs.Taken.{Passes, passes, command_bytes, byte_source, decoded}
 
--- what was read so far is the front of a well_formed graph
+-- what was read so far is the front of a well-formed graph
 pub record Good (d : Sofar) : Type 0 where
   pub first : d.limit ≡ None → (d.inputs ≡ []) × (d.operations ≡ []) × (d.outputs ≡ [])
   pub limit : (n : ℕ) → d.limit ≡ Some n → (1 ≤ n) × (n ≤ 64)

@@ -98,7 +98,7 @@ front_more front vs out o v e l h =
     ∙ set_at front (get_or out o (pos 0)) (drop (o + 1) out) v o l
     ∙ sym (append_assoc front (v ∷ []) (drop (o + 1) out))
 
--- the operations of a well_formed graph, with the values of the first o of them at the front of a buffer
+-- the operations of a well-formed graph, with the values of the first o of them at the front of a buffer
 module _ (G : Graph) (wf : WellFormed G) (xs : List ℤ) (widths : List ℕ) (ops : List Operation) (widths_are : widths ≡ G.inputs) (ops_are : ops ≡ G.operations) (o : ℕ) (there : o < length ops) where
   inside : o < count G
   inside = subst (λ x. o < length x) ops_are there

@@ -1,4 +1,4 @@
--- Sequencing graphs, and when one is well_formed.
+-- Sequencing graphs, and when one is well-formed.
 use Rattle.std.specs.Prelude.{◌≡◌, ℕ, ◌+◌, ◌<◌, ◌≤◌, Bool, true, ◌&&◌, List, length, nat_le, nat_lt, slice_index, slice_index_or}
 use Rattle.widths.specs.declared.Sides.{Sides}
 use Rattle.widths.specs.Kinds.{sides_of, valid}

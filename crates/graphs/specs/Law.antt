@@ -15,7 +15,7 @@ pub record PlacedFault (bytes : ℕ) (f : Fault) : Type 0 where
   pub there : place_of f ≡ At position
   pub inside : position ≤ bytes
 
--- a string is read as the graph G exactly if G is well_formed and the string is its own writing
+-- a string is read as the graph G exactly if G is well-formed and the string is its own writing
 pub record ReadingLaw (bs : List ℕ) : Type 0 where
   pub formed : (G : Graph) → read bs ≡ Ok G → WellFormed G
   pub written : (G : Graph) → read bs ≡ Ok G → bs ≡ write G

@@ -1,4 +1,4 @@
--- A job's invariant says that its graph is well_formed.
+-- A job's invariant says that its graph is well-formed.
 use Rattle.std.proofs.Common.{◌≡◌, ◌<◌, ◌≤◌, true, length, get_or, vec_items, vec_len, sym, subst}
 use Rattle.sheet.specs.declared.Job.{Job}
 use Rattle.graphs.specs.Graphs.{WellFormed, good_operation, no_operation}

@@ -1,4 +1,4 @@
--- The law is proved over every well_formed graph and sound list; a job is the one, a list the other.
+-- The law is proved over every well-formed graph and sound list; a job is the one, a list the other.
 use Rattle.plans.proofs.Laws.{law}
 use Rattle.sheet.specs.Jobs.{graph_of}
 use Rattle.sheet.proofs.Formed.{formed}
