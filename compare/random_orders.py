@@ -1,6 +1,6 @@
 """Holds the order program against a calculation of its own on orders that are drawn at random, always the same ones.
 
-Usage: python3 compare/random_orders.py target/bin/order
+Usage: python3 compare/random_orders.py crates/order/out/order
 
 Sheets are small and mostly faultless, units and steps are few, so that calls are taken and refused for every cause.
 It fails at the first order on which the two differ, and if some cause was never met.

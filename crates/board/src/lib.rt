@@ -11,7 +11,7 @@ ghost use Rattle.std.specs.Result.{result_err};
 ghost use Rattle.graphs.specs.Graphs.{count};
 ghost use Rattle.prices.specs.Sums.{first_of};
 ghost use Rattle.plans.specs.Plans.{empty};
-ghost use Rattle.plans.specs.Calls.{hire as to-hire, dismiss as to-dismiss, place as to-place, lift as to-lift, place_causes, verdict, after};
+ghost use Rattle.plans.specs.Calls.{hire as to_hire, dismiss as to_dismiss, place as to_place, lift as to_lift, place_causes, verdict, after};
 ghost use Rattle.plans.specs.Law.{BoardLaw};
 ghost use Rattle.sheet.specs.Jobs.{graph_of};
 ghost use Rattle.board.specs.Boards.{job_on, graph_on, list_on, plan_on};
@@ -61,8 +61,8 @@ impl<L: PriceList> Board<L> {
 
     // Hires the unit of a kind with a number, of width w, or (w, v) for a multiplier; v is 0 for any other kind.
     pub fn hire(&mut self, kind: u8, number: u8, w: u8, v: u8) -> Result<(), Fault>
-        ensures answer { result_err result ≡ verdict (graph_on self.old) (L.PriceList.prices (list_on self.old)) (plan_on self.old) (to-hire kind number w v) }
-        ensures plan { plan_on self.new ≡ after (graph_on self.old) (L.PriceList.prices (list_on self.old)) (plan_on self.old) (to-hire kind number w v) }
+        ensures answer { result_err result ≡ verdict (graph_on self.old) (L.PriceList.prices (list_on self.old)) (plan_on self.old) (to_hire kind number w v) }
+        ensures plan { plan_on self.new ≡ after (graph_on self.old) (L.PriceList.prices (list_on self.old)) (plan_on self.old) (to_hire kind number w v) }
         ensures kept { (job_on self.new ≡ job_on self.old) × (list_on self.new ≡ list_on self.old) }
         ensures refused { OnErr result (self.new ≡ self.old) }
     {
@@ -87,8 +87,8 @@ impl<L: PriceList> Board<L> {
 
     // Takes out a unit that serves no placed operation.
     pub fn dismiss(&mut self, kind: u8, number: u8) -> Result<(), Fault>
-        ensures answer { result_err result ≡ verdict (graph_on self.old) (L.PriceList.prices (list_on self.old)) (plan_on self.old) (to-dismiss kind number) }
-        ensures plan { plan_on self.new ≡ after (graph_on self.old) (L.PriceList.prices (list_on self.old)) (plan_on self.old) (to-dismiss kind number) }
+        ensures answer { result_err result ≡ verdict (graph_on self.old) (L.PriceList.prices (list_on self.old)) (plan_on self.old) (to_dismiss kind number) }
+        ensures plan { plan_on self.new ≡ after (graph_on self.old) (L.PriceList.prices (list_on self.old)) (plan_on self.old) (to_dismiss kind number) }
         ensures kept { (job_on self.new ≡ job_on self.old) × (list_on self.new ≡ list_on self.old) }
         ensures refused { OnErr result (self.new ≡ self.old) }
     {
@@ -110,8 +110,8 @@ impl<L: PriceList> Board<L> {
 
     // Places an operation on a unit of its kind, from a step on, and its value into a register.
     pub fn place(&mut self, operation: u8, unit: u8, start: u16, register: u8) -> Result<(), Fault>
-        ensures answer { result_err result ≡ verdict (graph_on self.old) (L.PriceList.prices (list_on self.old)) (plan_on self.old) (to-place operation unit start register) }
-        ensures plan { plan_on self.new ≡ after (graph_on self.old) (L.PriceList.prices (list_on self.old)) (plan_on self.old) (to-place operation unit start register) }
+        ensures answer { result_err result ≡ verdict (graph_on self.old) (L.PriceList.prices (list_on self.old)) (plan_on self.old) (to_place operation unit start register) }
+        ensures plan { plan_on self.new ≡ after (graph_on self.old) (L.PriceList.prices (list_on self.old)) (plan_on self.old) (to_place operation unit start register) }
         ensures kept { (job_on self.new ≡ job_on self.old) × (list_on self.new ≡ list_on self.old) }
         ensures refused { OnErr result (self.new ≡ self.old) }
     {
@@ -127,8 +127,8 @@ impl<L: PriceList> Board<L> {
 
     // Takes out the placing of an operation.
     pub fn lift(&mut self, operation: u8) -> Result<(), Fault>
-        ensures answer { result_err result ≡ verdict (graph_on self.old) (L.PriceList.prices (list_on self.old)) (plan_on self.old) (to-lift operation) }
-        ensures plan { plan_on self.new ≡ after (graph_on self.old) (L.PriceList.prices (list_on self.old)) (plan_on self.old) (to-lift operation) }
+        ensures answer { result_err result ≡ verdict (graph_on self.old) (L.PriceList.prices (list_on self.old)) (plan_on self.old) (to_lift operation) }
+        ensures plan { plan_on self.new ≡ after (graph_on self.old) (L.PriceList.prices (list_on self.old)) (plan_on self.old) (to_lift operation) }
         ensures kept { (job_on self.new ≡ job_on self.old) × (list_on self.new ≡ list_on self.old) }
         ensures refused { OnErr result (self.new ≡ self.old) }
     {
