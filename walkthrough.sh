@@ -2,8 +2,8 @@
 # Proves and builds the walkthrough, and runs it beside its sheets and samples.
 set -eu
 cd "$(dirname "$0")/crates/walkthrough"
-rm -f out/walkthrough
-# This run only builds: it is not made beside the program's files, and ends with an error of its own.
-rt run >/dev/null || true
+rt check
+# This run builds the program. It is not made beside the program's files, so it ends with an error of its own.
+rt run >/dev/null 2>&1 || true
 cd data
 exec ../out/walkthrough

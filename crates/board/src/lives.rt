@@ -165,7 +165,7 @@ fn enter(crowd: &mut [u8], value: Option<Life>)
 
 // How many values stand in each register, in a table of zeros.
 fn fill_crowd(lives: &[Option<Life>], count: usize, crowd: &mut [u8])
-    requires { (count ≤ length lives.now) × ((count ≤ 64) × (((q : ℕ) → slice_index crowd.old q ≡ 0))) }
+    requires { (count ≤ length lives.now) × ((count ≤ 64) × ((q : ℕ) → slice_index crowd.old q ≡ 0)) }
     ensures { (q : ℕ) → q < length crowd.old → slice_index crowd.new q ≡ standing lives.now q count }
 {
     for x in 0..count {
@@ -176,7 +176,7 @@ fn fill_crowd(lives: &[Option<Life>], count: usize, crowd: &mut [u8])
 // The lowest register in which two lives share a step. A register with one value at most is passed over, and so is a value
 // that does not stand in the register, before it is held against the others.
 fn clash_in(lives: &[Option<Life>], count: usize, crowd: &[u8]) -> Option<usize>
-    requires { (count ≤ length lives.now) × ((length crowd.now ≡ 64) × (((q : ℕ) → q < 64 → slice_index crowd.now q ≡ standing lives.now q count))) }
+    requires { (count ≤ length lives.now) × ((length crowd.now ≡ 64) × ((q : ℕ) → q < 64 → slice_index crowd.now q ≡ standing lives.now q count)) }
     ensures { result ≡ lowest (λ q. any (λ x. any (λ y. meet q (slice_index_or lives.now x None) (slice_index_or lives.now y None)) x) count) units }
 {
     let mut found = None;

@@ -211,8 +211,8 @@ abbrev bytes_so_far : Sofar → List ℕ
 bytes_so_far d = bytes_of d.limit d.inputs d.operations d.outputs d.ended
 
 -- one element more, where nothing stands behind it yet
-joined_push : {A : Type 0} (f : A → List ℕ) (xs : List A) (x : A) → flat_map f (xs ++ x ∷ []) ≡ flat_map f xs ++ f x
-joined_push f xs x = sym (flat_map_more f [] xs x)
+flat_map_push : {A : Type 0} (f : A → List ℕ) (xs : List A) (x : A) → flat_map f (xs ++ x ∷ []) ≡ flat_map f xs ++ f x
+flat_map_push f xs x = sym (flat_map_more f [] xs x)
 
 bytes_steps : (n : ℕ) (limit : Option ℕ) (ins : List ℕ) (ops : List Operation) (outs : List ℕ) (ended : Bool)
     → limit ≡ None → ins ≡ [] → ops ≡ [] → outs ≡ [] → ended ≡ false → bytes_of (Some n) ins ops outs ended ≡ bytes_of limit ins ops outs ended ++ (0x10 ∷ n ∷ [])
@@ -220,15 +220,15 @@ bytes_steps n limit ins ops outs ended l i o u e = rw (l, i, o, u, e)
 
 bytes_input : (w : ℕ) (limit : Option ℕ) (ins : List ℕ) (ops : List Operation) (outs : List ℕ) (ended : Bool)
     → ops ≡ [] → outs ≡ [] → ended ≡ false → bytes_of limit (ins ++ w ∷ []) ops outs ended ≡ bytes_of limit ins ops outs ended ++ input_bytes w
-bytes_input w limit ins ops outs ended o u e = rw (o, u, e, joined_push input_bytes ins w) (simp (append_assoc, append-nil))
+bytes_input w limit ins ops outs ended o u e = rw (o, u, e, flat_map_push input_bytes ins w) (simp (append_assoc, append-nil))
 
 bytes_operation : (x : Operation) (limit : Option ℕ) (ins : List ℕ) (ops : List Operation) (outs : List ℕ) (ended : Bool)
     → outs ≡ [] → ended ≡ false → bytes_of limit ins (ops ++ x ∷ []) outs ended ≡ bytes_of limit ins ops outs ended ++ operation_bytes x
-bytes_operation x limit ins ops outs ended u e = rw (u, e, joined_push operation_bytes ops x) (simp (append_assoc, append-nil))
+bytes_operation x limit ins ops outs ended u e = rw (u, e, flat_map_push operation_bytes ops x) (simp (append_assoc, append-nil))
 
 bytes_output : (x : ℕ) (limit : Option ℕ) (ins : List ℕ) (ops : List Operation) (outs : List ℕ) (ended : Bool)
     → ended ≡ false → bytes_of limit ins ops (outs ++ x ∷ []) ended ≡ bytes_of limit ins ops outs ended ++ output_bytes x
-bytes_output x limit ins ops outs ended e = rw (e, joined_push output_bytes outs x) (simp (append_assoc, append-nil))
+bytes_output x limit ins ops outs ended e = rw (e, flat_map_push output_bytes outs x) (simp (append_assoc, append-nil))
 
 bytes_end : (limit : Option ℕ) (ins : List ℕ) (ops : List Operation) (outs : List ℕ) (ended : Bool)
     → ended ≡ false → bytes_of limit ins ops outs true ≡ bytes_of limit ins ops outs ended ++ (0x1F ∷ [])

@@ -91,7 +91,7 @@ fn fill(job: &Job, samples: &[i64], values: &mut [i64])
 
 // Writes the values that stand at the named places, in their order.
 fn pick(named: &[u8], values: &[i64], out: &mut [i64])
-    requires { (((k : ℕ) → k < length named.now → slice_index named.now k < length values.now)) × (length named.now ≤ length out.old) }
+    requires { ((k : ℕ) → k < length named.now → slice_index named.now k < length values.now) × (length named.now ≤ length out.old) }
     ensures { out.new ≡ overwritten (map (λ o. slice_index_or values.now o (pos 0)) named.now) out.old }
 {
     for (k, o) in named.iter().enumerate() {
