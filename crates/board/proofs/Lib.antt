@@ -2,4 +2,3 @@ pub mod Writes
 pub mod Searches
 pub mod Sums
 pub mod Meetings
-pub mod Values

@@ -1,6 +1,10 @@
 -- Lives in a table are those of the plan that the tables hold.
-use Rattle.std.proofs.Common.{◌≡◌, ℕ, zero, suc, ◌+◌, ◌<◌, ◌≤◌, max, Bool, true, false, cond, ◌&&◌, ◌||◌, eqb, List, length, get_or, Some, None, Option, sym, refl, ap, ◌∙◌, ap₂, inl, inr, add-one, arith}
-use Rattle.std.proofs.lemmas.Bool.{cases_Bool, or_from}
+use Rattle.std.proofs.Common.{◌≡◌, ℕ, zero, suc, ◌+◌, ◌-◌, ◌<◌, ◌≤◌, max, Bool, true, false, cond, ◌||◌, eqb, List, length, get_or, is_some, Some, None, Option, IsTrue, ◌↔◌, sym, refl, subst, ap, ◌∙◌, ap₂, inl, inr, add-one, arith}
+use Rattle.std.specs.Bool.{MatchBool}
+use Rattle.std.specs.List.{range_with_len, AllWithin, HoldsAt}
+use Rattle.std.proofs.lemmas.List.FromFn.{length-range_with_len, get_or-range_with_len}
+use Rattle.std.proofs.Math.Bool.{and-false}
+use Rattle.std.proofs.lemmas.Bool.{cases_Bool, or_from, false≢true}
 use Rattle.graphs.specs.declared.Operation.{Operation}
 use Rattle.graphs.specs.Graphs.{Graph, count, no_operation}
 use Rattle.prices.specs.Prices.{Prices}
@@ -8,7 +12,9 @@ use Rattle.prices.specs.Totals.{total_has, total_most}
 use Rattle.prices.specs.Sums.{lowest, any, most}
 use Rattle.plans.specs.declared.Life.{Life}
 use Rattle.plans.specs.declared.Placing.{Placing}
-use Rattle.plans.specs.Plans.{Plan, operation_reads, reads, is_output, start_of, units}
+use Rattle.std.proofs.lemmas.Option.{none-some}
+use Rattle.plans.proofs.Placings.{there, absent}
+use Rattle.plans.specs.Plans.{Plan, Complete, operation_reads, reads, is_output, start_of, units}
 use Rattle.plans.specs.Calls.{life, meet, clash}
 use Rattle.board.specs.Lives.{stands_in, standing}
 use Rattle.board.proofs.Searches.{any_same, any_none, most_more}
@@ -22,14 +28,10 @@ apart q (Some x) (Some y) e = rw e
 pub alone : (q : ℕ) (x : Option Life) (lives : List (Option Life)) (n : ℕ) → stands_in q x ≡ false → any (λ y. meet q x (get_or lives y None)) n ≡ false
 alone q x lives n e = any_none (λ y. meet q x (get_or lives y None)) n (λ y h. apart q x (get_or lives y None) e)
 
-and_false : (a : Bool) → a && false ≡ false
-and_false true = refl
-and_false false = refl
-
 apart_from : (q : ℕ) (x y : Option Life) → stands_in q y ≡ false → meet q x y ≡ false
 apart_from q None y e = refl
 apart_from q (Some x) None e = refl
-apart_from q (Some x) (Some y) e = rw (e, and_false (eqb x.register q))
+apart_from q (Some x) (Some y) e = rw (e, and-false (eqb x.register q))
 
 one_or_none : (b : Bool) → cond b 1 0 ≤ 0 → b ≡ false
 one_or_none true h = absurd (omega arith)
@@ -88,3 +90,17 @@ unfolding is_output
 output_all G given same k x before now h l e =
     let s : k ≡ length G.outputs = omega (arith, ap length same) in
     e ∙ ap (λ n. max before (cond (any (λ i. eqb (get_or G.outputs i 0) x) n) G.limit 0)) s
+
+-- every operation is placed, where `all` over their numbers says so
+pub whole : (G : Graph) (pl : Plan) (n : ℕ) (b : Bool) → n ≡ count G → MatchBool b (AllWithin (λ o. is_some (pl.placed o) ≡ true) (range_with_len 0 (n - 0)) 0 (length (range_with_len 0 (n - 0)))) ((k : ℕ) × (k < length (range_with_len 0 (n - 0))) × HoldsAt (λ o. is_some (pl.placed o) ≡ false) (range_with_len 0 (n - 0)) k) → IsTrue b ↔ Complete G pl
+whole G pl n b e h = by b h
+  where
+    at : (k : ℕ) → k < n → get_or (range_with_len 0 (n - 0)) k 0 ≡ k
+    at k l = omega (arith, get_or-range_with_len 0 (n - 0) k 0 (omega arith))
+
+    by : (b : Bool) → MatchBool b (AllWithin (λ o. is_some (pl.placed o) ≡ true) (range_with_len 0 (n - 0)) 0 (length (range_with_len 0 (n - 0)))) ((k : ℕ) × (k < length (range_with_len 0 (n - 0))) × HoldsAt (λ o. is_some (pl.placed o) ≡ false) (range_with_len 0 (n - 0)) k) → IsTrue b ↔ Complete G pl
+    by true all = ((λ t o l. there (pl.placed o) (subst (λ k. is_some (pl.placed k) ≡ true) (at o (omega arith)) (all o 0 (omega arith) (omega (arith, length-range_with_len 0 (n - 0)))))), λ c. refl)
+    by false some =
+        let k : some.0 < n = omega (arith, some.1, length-range_with_len 0 (n - 0)) in
+        let none = subst (λ i. is_some (pl.placed i) ≡ false) (at some.0 k) (some.2 0) in
+        ((λ t. absurd (false≢true t)), λ c. absurd (none-some _ (sym (absent (pl.placed some.0) none) ∙ (c some.0 (omega arith)).1)))

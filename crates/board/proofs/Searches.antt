@@ -1,23 +1,36 @@
 -- Searches and largest values from below, as a loop makes them.
-use Rattle.std.proofs.Common.{◌≡◌, ℕ, zero, suc, ◌+◌, ◌<◌, ◌≤◌, max, Bool, true, false, ◌||◌, Some, None, refl, subst, ap₂, inl, inr, add-one, arith}
-use Rattle.std.proofs.lemmas.Bool.{cases_lt, false≢true}
+use Rattle.std.proofs.Common.{◌≡◌, ℕ, zero, suc, ◌+◌, ◌<◌, ◌≤◌, max, Bool, true, false, ◌||◌, List, Some, None, Option, MatchOption, sym, refl, subst, ap₂, inl, inr, add-one, arith}
+use denote.Param.Members.{Mut}
+use denote.Ref.{Bor}
+use Rattle.std.specs.Bool.{⊤}
+use Rattle.std.specs.Fn.{CalledAt}
+use Rattle.std.specs.Iterator.{YieldsThen}
+use Rattle.std.specs.List.{FoldsTo}
+use Rattle.std.specs.declared.ops.Range.{Range}
+use Rattle.std.proofs.iter.Yields.{nat_range_steps}
+use Rattle.std.proofs.lemmas.Bool.{cases_lt, or_left, or_right}
+use Rattle.std.proofs.lemmas.Iterator.{first_from_Range}
 use Rattle.prices.specs.Sums.{lowest, any, most}
-use Rattle.prices.proofs.Searches.{lowest_found}
+use Rattle.prices.proofs.Searches.{lowest_found, lowest_is}
 use Rattle.plans.specs.Plans.{units}
+
+-- what `find` finds in a range from 0, where its closure computes f
+pub lowest_from_find : {F : Type 0} {g : Mut F (Bor ℕ × Unit {0}) Bool} (f : ℕ → Bool) (n : ℕ) (s u : Range ℕ) (h : F) (r : Option ℕ)
+    → s.start ≡ 0 → s.end ≡ n
+    → (xs : List ℕ) × (j : F) × YieldsThen nat_range_steps s xs r u × FoldsTo (λ p x q. CalledAt g p x false q) h xs j × MatchOption r ⊤ (λ x. (k : F) × CalledAt g j x true k)
+    → ((x : ℕ) (b : Bool) (q : F) → CalledAt g h x b q → (q ≡ h) × (b ≡ f x)) → r ≡ lowest f n
+lowest_from_find f n s u h r from to ran computes =
+    by r (first_from_Range s u h r (λ i. f i ≡ true) (λ i. f i ≡ false) ran (λ x q k. sym (computes x true q k).1) (λ x q k. let c = computes x false q k in (c.0, sym c.1)))
+  where
+    by : (r : Option ℕ) → MatchOption r ((k : ℕ) → s.start ≤ k → k < s.end → f k ≡ false) (λ i. (s.start ≤ i) × (i < s.end) × (f i ≡ true) × ((k : ℕ) → s.start ≤ k → k < i → f k ≡ false)) → r ≡ lowest f n
+    by None e = lowest_is f n None (λ k l. e k (omega arith) (omega arith))
+    by (Some i) e = lowest_is f n (Some i) (omega (arith, e.1), e.2, λ k l. e.3 k (omega arith) l)
 
 pub any_more : (f : ℕ → Bool) (n : ℕ) → any f n ≡ false → f n ≡ false → any f (n + 1) ≡ false
 any_more f n e h = rw (add-one, h) e
 
 pub any_end : (f : ℕ → Bool) (n m : ℕ) → any f n ≡ false → m ≤ n → n ≤ m → any f m ≡ false
 any_end f n m e h k = let s : m ≡ n = omega arith in rw s e
-
-or_right : (a b : Bool) → b ≡ true → (a || b) ≡ true
-or_right true b k = refl
-or_right false b k = k
-
-or_left : (a b : Bool) → a ≡ true → (a || b) ≡ true
-or_left true b k = refl
-or_left false b k = absurd (false≢true k)
 
 pub any_hit : (f : ℕ → Bool) (n i : ℕ) → i < n → f i ≡ true → any f n ≡ true
 any_hit f zero i h e = absurd (omega arith)

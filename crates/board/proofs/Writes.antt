@@ -1,9 +1,10 @@
--- What a table holds at first, and after one place of it is written.
-use Rattle.std.proofs.Common.{◌≡◌, ℕ, zero, suc, ◌<◌, Bool, true, false, cond, T, eqb, List, length, get_or, set, replicate, is_some, None, Option, sym, refl, ap, ◌∙◌, inl, inr}
-use Rattle.std.proofs.lemmas.Bool.{cases_eq, cases_lt, eq-eqb, ne_eqb, cond-true, cond-false, false≢true}
-use Rattle.std.proofs.lemmas.List.{get_or-set_same, get_or-set_other, get_or_past}
+-- What the tables hold at first, and when a placing is taken out again.
+use Rattle.std.proofs.Common.{◌≡◌, ℕ, zero, suc, Bool, true, false, cond, eqb, get_or, set, replicate, None, Option, sym, refl, ap, ◌∙◌}
+use Rattle.std.proofs.lemmas.List.{set-set, set-get_or}
+use Rattle.plans.specs.declared.Placing.{Placing}
 use Rattle.plans.specs.Plans.{empty}
-use Rattle.board.specs.Tables.{plan_of, one_side, two_sides}
+use Rattle.board.specs.declared.tables.Tables.{Tables}
+use Rattle.board.specs.Tables.{plan_of, one_side, two_sides, with_entry}
 
 -- a table of one value
 pub all_alike : {A : Type 0} (n i : ℕ) (x : A) → get_or (replicate n x) i x ≡ x
@@ -23,16 +24,6 @@ nothing_yet = λ i. record {
     none false false true n = ap one_side (all_alike 64 n None)
     none false false false n = refl
 
-pub one_written : {A : Type 0} (xs : List A) (n i : ℕ) (x d : A) → n < length xs → get_or (set xs n x) i d ≡ cond (eqb i n) x (get_or xs i d)
-one_written xs n i x d h = elim (cases_eq i n) [
-  | inl e ↦ rw (cond-true (eqb i n) x (get_or xs i d) (eq-eqb i n e), e) (get_or-set_same xs n x d h)
-  | inr e ↦ rw (cond-false (eqb i n) x (get_or xs i d) (ne_eqb i n e)) (get_or-set_other xs n i x d e)
-]
-
--- what stands in a table of 64 stands below 64
-pub placed_low : {A : Type 0} (xs : List (Option A)) (o : ℕ) (b : Bool) → length xs ≡ 64 → b ≡ is_some (get_or xs o None) → T b → o < 64
-placed_low xs o true len e t = elim (cases_lt o 64) [
-  | inl h ↦ h
-  | inr h ↦ absurd (false≢true (sym (e ∙ ap is_some (get_or_past xs o None (rw len h)))))
-]
-placed_low xs o false len e t = absurd t
+-- a placing that is taken out again leaves the tables as they were
+pub put_back : (t : Tables) (o : ℕ) (p : Option Placing) → (plan_of t).placed o ≡ None → with_entry (with_entry t o p) o None ≡ t
+put_back t o p e = ap (λ xs. record { adders = t.adders; multipliers = t.multipliers; registers = t.registers; placings = xs }) (set-set t.placings o p None ∙ ap (set t.placings o) (sym e) ∙ set-get_or t.placings o None)

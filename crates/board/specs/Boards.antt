@@ -1,6 +1,13 @@
 -- What a board holds: its job with its graph, its list and its plan.
+use Rattle.std.specs.Prelude.{◌≡◌, ℕ, Bool, Option, Result, OnErr}
+use Rattle.std.specs.Result.{result_err}
+use Rattle.faults.specs.declared.Fault.{Fault}
 use Rattle.graphs.specs.Graphs.{Graph}
+use Rattle.prices.specs.Prices.{Prices}
+use Rattle.plans.specs.declared.Placing.{Placing}
+use Rattle.plans.specs.declared.Life.{Life}
 use Rattle.plans.specs.Plans.{Plan}
+use Rattle.plans.specs.Calls.{Call, serves, disorder, crowding, life, verdict, after}
 use Rattle.sheet.specs.declared.Job.{Job}
 use Rattle.sheet.specs.Jobs.{graph_of}
 use Rattle.board.specs.declared.Board.{Board}
@@ -17,3 +24,25 @@ list_on b = b.list
 
 abbrev pub plan_on : {L : Type 0} → Board L → Plan
 plan_on b = plan_of b.tables
+
+-- what the rules of placings say of a board's own operations, where its list has these prices
+
+abbrev pub serves_on : {L : Type 0} → Board L → ℕ → ℕ → ℕ → Bool
+serves_on b k n o = serves (graph_on b) k n o ((plan_on b).placed o)
+
+abbrev pub disorder_on : {L : Type 0} → (L → Prices) → Board L → ℕ → Placing → ℕ → Bool
+disorder_on prices b o p e = disorder (graph_on b) (prices (list_on b)) (plan_on b) o p e ((plan_on b).placed e)
+
+abbrev pub crowding_on : {L : Type 0} → (L → Prices) → Board L → ℕ → Placing → ℕ → Bool
+crowding_on prices b o p e = crowding (graph_on b) (prices (list_on b)) (plan_on b) o p e ((plan_on b).placed e)
+
+abbrev pub life_on : {L : Type 0} → (L → Prices) → Board L → ℕ → Option Life
+life_on prices b o = life (graph_on b) (prices (list_on b)) (plan_on b) o ((plan_on b).placed o)
+
+-- what a call does to a board whose list has these prices: it answers its verdict, the plan afterwards is that of the rules, the job and
+-- the list stay, and a refusal leaves the whole board as it was
+pub record Obeys {L : Type 0} (prices : L → Prices) (call : Call) (old new : Board L) (result : Result (Unit {0}) Fault) : Type 0 where
+  pub answer : result_err result ≡ verdict (graph_on old) (prices (list_on old)) (plan_on old) call
+  pub plan : plan_on new ≡ after (graph_on old) (prices (list_on old)) (plan_on old) call
+  pub kept : (job_on new ≡ job_on old) × (list_on new ≡ list_on old)
+  pub refused : OnErr result (new ≡ old)

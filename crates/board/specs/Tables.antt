@@ -1,8 +1,9 @@
 -- The plan that a board's tables hold.
-use Rattle.std.specs.Prelude.{ℕ, cond, None, Option, ◌==◌, slice_index_or}
+use Rattle.std.specs.Prelude.{ℕ, cond, None, Option, ◌==◌, slice_index_or, slice_set}
 use Rattle.std.specs.Option.{option_map}
 use Rattle.widths.specs.declared.Sides.{Sides}
 use Rattle.widths.specs.Kinds.{sides_of}
+use Rattle.plans.specs.declared.Placing.{Placing}
 use Rattle.plans.specs.Plans.{Plan}
 use Rattle.board.specs.declared.tables.Tables.{Tables}
 
@@ -19,6 +20,10 @@ hired_in t k n =
     cond (k == 0) (one_side (slice_index_or t.adders n None))
     (cond (k == 1) (two_sides (slice_index_or t.multipliers n None))
     (cond (k == 2) (one_side (slice_index_or t.registers n None)) None))
+
+-- the tables with this placing, or none, at an operation's number
+abbrev pub with_entry : Tables → ℕ → Option Placing → Tables
+with_entry t o p = record { adders = t.adders; multipliers = t.multipliers; registers = t.registers; placings = slice_set t.placings o p }
 
 abbrev pub plan_of : Tables → Plan
 plan_of t = record { hired = hired_in t; placed = λ o. slice_index_or t.placings o None }

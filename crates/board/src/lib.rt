@@ -6,32 +6,31 @@
 // `questions.rt`.
 #![tactic(auto)]
 
-ghost use Rattle.std.specs.Prelude.{◌≡◌, ◌<◌, T, OnErr, OnOk, nat_lt};
+ghost use Rattle.std.specs.Prelude.{◌≡◌, ◌<◌, T, OnErr, OnOk, Some, None, nat_lt};
+ghost use Rattle.std.specs.Option.{option_map};
 ghost use Rattle.std.specs.Result.{result_err};
+ghost use Rattle.faults.specs.declared.Fault.TheVariants.{RegisterBusy};
 ghost use Rattle.graphs.specs.Graphs.{count};
-ghost use Rattle.prices.specs.Sums.{first_of};
-ghost use Rattle.plans.specs.Plans.{empty};
-ghost use Rattle.plans.specs.Calls.{hire as to_hire, dismiss as to_dismiss, place as to_place, lift as to_lift, place_causes, verdict, after};
+ghost use Rattle.prices.specs.Sums.{first_of, or_else, lowest};
+ghost use Rattle.plans.specs.Plans.{empty, units};
+ghost use Rattle.plans.specs.Calls.{hire as to_hire, dismiss as to_dismiss, place as to_place, lift as to_lift, place_causes, clash, with_placing};
 ghost use Rattle.plans.specs.Law.{BoardLaw};
 ghost use Rattle.sheet.specs.Jobs.{graph_of};
-ghost use Rattle.board.specs.Boards.{job_on, graph_on, list_on, plan_on};
+ghost use Rattle.board.specs.Boards.{job_on, graph_on, list_on, plan_on, Obeys};
 
-mod kinds;
 mod lives;
 mod questions;
 mod rules;
 mod tables;
 
 use faults::Fault;
-use kinds::{has_first_side, has_width};
-use lives::clashing;
 pub use plans::{Life, Placing};
 use prices::PriceList;
-use rules::{crowded, early, finish_of, kind_of, register_covers, serving, unit_covers};
 use sheet::Job;
-use tables::{Tables, entry};
-use widths::Sides;
+use tables::Tables;
+use widths::{Sides, UnitKind};
 
+// Calls take their operands as bytes, so that one of no kind or out of its range is refused with its place.
 #[derive(Drop)]
 pub struct Board<L> {
     job: Job,
@@ -41,7 +40,7 @@ pub struct Board<L> {
 
 // The law of every board of this job and this list.
 fn holds_law<L: PriceList>(job: &Job, list: &L)
-    ensures { BoardLaw (graph_of job.now) (L.PriceList.prices list.now) }
+    ensures { BoardLaw (graph_of job.now) (L.prices list.now) }
 {}
 
 impl<L: PriceList> Board<L> {
@@ -49,7 +48,7 @@ impl<L: PriceList> Board<L> {
     pub fn new(job: Job, list: L) -> Board<L>
         ensures kept { (job_on result ≡ job) × (list_on result ≡ list) }
         ensures plan { plan_on result ≡ empty }
-        ensures law { BoardLaw (graph_of job) (L.PriceList.prices list) }
+        ensures law { BoardLaw (graph_of job) (L.prices list) }
     {
         holds_law(&job, &list);
         Board {
@@ -61,59 +60,48 @@ impl<L: PriceList> Board<L> {
 
     // Hires the unit of a kind with a number, of width w, or (w, v) for a multiplier; v is 0 for any other kind.
     pub fn hire(&mut self, kind: u8, number: u8, w: u8, v: u8) -> Result<(), Fault>
-        ensures answer { result_err result ≡ verdict (graph_on self.old) (L.PriceList.prices (list_on self.old)) (plan_on self.old) (to_hire kind number w v) }
-        ensures plan { plan_on self.new ≡ after (graph_on self.old) (L.PriceList.prices (list_on self.old)) (plan_on self.old) (to_hire kind number w v) }
-        ensures kept { (job_on self.new ≡ job_on self.old) × (list_on self.new ≡ list_on self.old) }
-        ensures refused { OnErr result (self.new ≡ self.old) }
+        ensures { Obeys L.prices (to_hire kind number w v) self.old self.new result }
     {
-        if kind > 2 {
-            return Err(Fault::CallOutOfRange(0));
-        }
+        let kind = UnitKind::try_from(kind).map_err(|_| Fault::CallOutOfRange(0))?;
         if number >= 64 {
             return Err(Fault::CallOutOfRange(1));
         }
-        if !has_first_side(kind, w) {
+        if !kind.has_first_side(w) {
             return Err(Fault::CallOutOfRange(2));
         }
-        if !has_width(kind, Sides { p: w, q: v }) {
+        let sides = Sides { p: w, q: v };
+        if !kind.has_width(sides) {
             return Err(Fault::CallOutOfRange(3));
         }
         if self.tables.unit(kind, number).is_some() {
             return Err(Fault::AlreadyThere(1));
         }
-        self.tables.add(kind, number, w, v);
+        self.tables.set_unit(kind, number, Some(sides));
         Ok(())
     }
 
     // Takes out a unit that serves no placed operation.
     pub fn dismiss(&mut self, kind: u8, number: u8) -> Result<(), Fault>
-        ensures answer { result_err result ≡ verdict (graph_on self.old) (L.PriceList.prices (list_on self.old)) (plan_on self.old) (to_dismiss kind number) }
-        ensures plan { plan_on self.new ≡ after (graph_on self.old) (L.PriceList.prices (list_on self.old)) (plan_on self.old) (to_dismiss kind number) }
-        ensures kept { (job_on self.new ≡ job_on self.old) × (list_on self.new ≡ list_on self.old) }
-        ensures refused { OnErr result (self.new ≡ self.old) }
+        ensures { Obeys L.prices (to_dismiss kind number) self.old self.new result }
     {
-        if kind > 2 {
-            return Err(Fault::CallOutOfRange(0));
-        }
+        let kind = UnitKind::try_from(kind).map_err(|_| Fault::CallOutOfRange(0))?;
         if number >= 64 {
             return Err(Fault::CallOutOfRange(1));
         }
         if self.tables.unit(kind, number).is_none() {
             return Err(Fault::NotThere(1));
         }
-        if let Some(o) = serving(&self.job, &self.tables, kind, number) {
+        if let Some(o) = self.serving(kind, number) {
             return Err(Fault::StillServing(o));
         }
-        self.tables.remove(kind, number);
+        self.tables.set_unit(kind, number, None);
         Ok(())
     }
 
-    // Places an operation on a unit of its kind, from a step on, and its value into a register.
+    // Places an operation on a unit of its kind, from a step on, and its value into a register. Whether two lives meet shows
+    // only once it stands on the board; where they do, it is taken out again.
     pub fn place(&mut self, operation: u8, unit: u8, start: u16, register: u8) -> Result<(), Fault>
-        ensures answer { result_err result ≡ verdict (graph_on self.old) (L.PriceList.prices (list_on self.old)) (plan_on self.old) (to_place operation unit start register) }
-        ensures plan { plan_on self.new ≡ after (graph_on self.old) (L.PriceList.prices (list_on self.old)) (plan_on self.old) (to_place operation unit start register) }
-        ensures kept { (job_on self.new ≡ job_on self.old) × (list_on self.new ≡ list_on self.old) }
-        ensures refused { OnErr result (self.new ≡ self.old) }
+        ensures { Obeys L.prices (to_place operation unit start register) self.old self.new result }
     {
         let p = Placing {
             unit,
@@ -121,24 +109,25 @@ impl<L: PriceList> Board<L> {
             register,
         };
         self.judge(operation, p)?;
-        self.tables.put(operation, Some(p));
+        self.tables.set_placing(operation, Some(p));
+        if let Some(q) = self.clashing() {
+            self.tables.set_placing(operation, None);
+            return Err(Fault::RegisterBusy(q));
+        }
         Ok(())
     }
 
     // Takes out the placing of an operation.
     pub fn lift(&mut self, operation: u8) -> Result<(), Fault>
-        ensures answer { result_err result ≡ verdict (graph_on self.old) (L.PriceList.prices (list_on self.old)) (plan_on self.old) (to_lift operation) }
-        ensures plan { plan_on self.new ≡ after (graph_on self.old) (L.PriceList.prices (list_on self.old)) (plan_on self.old) (to_lift operation) }
-        ensures kept { (job_on self.new ≡ job_on self.old) × (list_on self.new ≡ list_on self.old) }
-        ensures refused { OnErr result (self.new ≡ self.old) }
+        ensures { Obeys L.prices (to_lift operation) self.old self.new result }
     {
         if !self.has_operation(operation) {
             return Err(Fault::CallOutOfRange(0));
         }
-        if entry(&self.tables.placings, operation as usize).is_none() {
+        if self.placed(operation as usize).is_none() {
             return Err(Fault::NotThere(0));
         }
-        self.tables.put(operation, None);
+        self.tables.set_placing(operation, None);
         Ok(())
     }
 
@@ -147,13 +136,15 @@ impl<L: PriceList> Board<L> {
         ensures value { result ≡ nat_lt operation (count (graph_on self.now)) }
         ensures low { T result → operation < 64 }
     {
-        (operation as usize) < self.job.operations().len()
+        (operation as usize) < self.count()
     }
 
-    // Every cause for which a placing can be refused, in the order of their numbers.
+    // Every cause but the last for which a placing can be refused, in the order of their numbers. The last is that two lives
+    // meet once it stands on the board.
     fn judge(&self, operation: u8, p: Placing) -> Result<(), Fault>
-        ensures answer { result_err result ≡ first_of (place_causes (graph_on self.now) (L.PriceList.prices (list_on self.now)) (plan_on self.now) operation p) }
+        ensures answer { first_of (place_causes (graph_on self.now) (L.prices (list_on self.now)) (plan_on self.now) operation p) ≡ or_else (result_err result) (option_map RegisterBusy (lowest (clash (graph_on self.now) (L.prices (list_on self.now)) (with_placing (plan_on self.now) operation (Some p))) units)) }
         ensures there { OnOk result (operation < 64) }
+        ensures free { OnOk result ((plan_on self.now).placed operation ≡ None) }
     {
         let o = operation as usize;
         if !self.has_operation(operation) {
@@ -165,35 +156,30 @@ impl<L: PriceList> Board<L> {
         if p.register >= 64 {
             return Err(Fault::CallOutOfRange(3));
         }
-        if entry(&self.tables.placings, o).is_some() {
+        if self.placed(o).is_some() {
             return Err(Fault::AlreadyThere(0));
         }
-        if self.tables.unit(kind_of(&self.job, o), p.unit).is_none() {
+        if self.unit_for(o, p.unit).is_none() {
             return Err(Fault::NotThere(1));
         }
-        if self.tables.unit(2, p.register).is_none() {
+        if self.tables.unit(UnitKind::Register, p.register).is_none() {
             return Err(Fault::NotThere(3));
         }
-        if !unit_covers(&self.job, &self.tables, o, p.unit) {
+        if !self.unit_covers(o, p.unit) {
             return Err(Fault::TooNarrow(1));
         }
-        if !register_covers(&self.job, &self.tables, o, p.register) {
+        if !self.register_covers(o, p.register) {
             return Err(Fault::TooNarrow(3));
         }
-        let finish = finish_of(&self.job, &self.list, &self.tables, o, p);
+        let finish = self.finish_of(o, p);
         if finish > self.job.limit() as u32 {
             return Err(Fault::TooLate(finish as usize));
         }
-        if let Some(e) = early(&self.job, &self.list, &self.tables, o, p) {
+        if let Some(e) = self.early(o, p) {
             return Err(Fault::NotReady(e));
         }
-        if let Some(e) = crowded(&self.job, &self.list, &self.tables, o, p) {
+        if let Some(e) = self.crowded(o, p) {
             return Err(Fault::UnitBusy(e));
-        }
-        let mut next = self.tables;
-        next.put(operation, Some(p));
-        if let Some(q) = clashing(&self.job, &self.list, &next) {
-            return Err(Fault::RegisterBusy(q));
         }
         Ok(())
     }

@@ -1,236 +1,181 @@
 // What the rules look at: who reads whom, when an operation finishes, and whether two operations are in each other's way.
 ghost use Rattle.std.specs.Prelude.{◌≡◌};
 ghost use Rattle.std.specs.Option.{option_map};
+ghost use Rattle.widths.specs.Kinds.{code_of};
 ghost use Rattle.graphs.specs.Graphs.{operation_at, count, value_width};
 ghost use Rattle.prices.specs.Sums.{lowest};
-ghost use Rattle.plans.specs.Plans.{names, reads, kind_at, own_at, value_at, steps_of, finish_with, wide};
-ghost use Rattle.plans.specs.Calls.{serves, disorder, crowding};
-ghost use Rattle.sheet.specs.Jobs.{graph_of};
-ghost use Rattle.board.specs.Tables.{plan_of, hired_in};
+ghost use Rattle.plans.specs.Plans.{names, reads, kind_at, own_at, value_at, register, steps_of, finish, wide};
+ghost use Rattle.board.specs.Boards.{graph_on, list_on, plan_on, serves_on, disorder_on, crowding_on};
 
-use super::tables::{Tables, entry};
+use super::Board;
+use super::tables::entry;
 use plans::Placing;
 use prices::PriceList;
-use sheet::{Job, Operand, Operation, Source};
-use widths::{Adder, Kind, Multiplier, Register, covers};
+use sheet::{Operand, Operation, Source};
+use widths::{Adder, Kind, Multiplier, Register, Sides, UnitKind};
 
-// The operation with a number; past the last one an addition of no bits that reads no operation.
-pub(super) fn operation_at(job: &Job, o: usize) -> Operation
-    ensures { result ≡ operation_at (graph_of job.now) o }
-{
-    let operations = job.operations();
-    if o < operations.len() {
-        operations[o]
-    } else {
-        let nothing = Operand {
-            source: Source::Input(0),
-            drop: 0,
-        };
-        Operation::Add(0, nothing, nothing)
-    }
-}
+const NOTHING: Operand = Operand {
+    source: Source::Input(0),
+    drop: 0,
+};
 
 fn is_named(source: Source, e: usize) -> bool
     ensures { result ≡ names source e }
 {
-    match source {
-        Source::Input(_) => false,
-        Source::Earlier(x) => x as usize == e,
+    matches!(source, Source::Earlier(x) if x as usize == e)
+}
+
+impl<L> Board<L> {
+    // How many operations there are.
+    pub(super) fn count(&self) -> usize
+        ensures { result ≡ count (graph_on self.now) }
+    {
+        self.job.operations().len()
+    }
+
+    // The operation with a number; past the last one an addition of no bits that reads no operation.
+    fn operation(&self, o: usize) -> Operation
+        ensures { result ≡ operation_at (graph_on self.now) o }
+    {
+        let nothing = Operation::Add(0, NOTHING, NOTHING);
+        self.job.operations().get(o).copied().unwrap_or(nothing)
+    }
+
+    // Where an operation is placed, if it is.
+    pub(super) fn placed(&self, o: usize) -> Option<Placing>
+        ensures { result ≡ (plan_on self.now).placed o }
+    {
+        entry(&self.tables.placings, o)
+    }
+
+    // Whether operation r has operation e as a source.
+    #[tactic(auto, unfolding(plans::specs::Plans::reads))]
+    fn is_reader(&self, r: usize, e: usize) -> bool
+        ensures { result ≡ reads (graph_on self.now) r e }
+    {
+        let [a, b] = self.operation(r).operands();
+        is_named(a.source, e) || is_named(b.source, e)
+    }
+
+    // The kind of unit that an operation runs on.
+    pub(super) fn kind_of(&self, o: usize) -> UnitKind
+        ensures { code_of result ≡ kind_at (graph_on self.now) o }
+    {
+        self.operation(o).kind()
+    }
+
+    // The sides of the unit with a number that an operation is put on, if it is hired.
+    pub(super) fn unit_for(&self, o: usize, unit: u8) -> Option<Sides>
+        ensures { result ≡ (plan_on self.now).hired (kind_at (graph_on self.now) o) unit }
+    {
+        self.tables.unit(self.kind_of(o), unit)
+    }
+
+    // Whether the unit covers the operation.
+    pub(super) fn unit_covers(&self, o: usize, unit: u8) -> bool
+        ensures { result ≡ wide ((plan_on self.now).hired (kind_at (graph_on self.now) o) unit) (own_at (graph_on self.now) o) }
+    {
+        let own = self.operation(o).sides();
+        self.unit_for(o, unit).is_some_and(|w| w.covers(own))
+    }
+
+    // The width of an operation's value.
+    fn value_bits(&self, o: usize) -> u8
+        ensures { result ≡ value_width (operation_at (graph_on self.now) o) }
+    {
+        let s = self.operation(o).sides();
+        s.p + s.q
+    }
+
+    // Whether the register covers the operation's value.
+    #[tactic(auto, unfolding(plans::specs::Plans::value_at))]
+    pub(super) fn register_covers(&self, o: usize, number: u8) -> bool
+        ensures { result ≡ wide ((plan_on self.now).hired register number) (value_at (graph_on self.now) o) }
+    {
+        let value = self.value_bits(o).into();
+        let unit = self.tables.unit(UnitKind::Register, number);
+        unit.is_some_and(|w| w.covers(value))
+    }
+
+    // Whether the unit of a kind with a number serves the operation.
+    fn is_served(&self, kind: UnitKind, number: u8, o: usize) -> bool
+        ensures { result ≡ serves_on self.now (code_of kind) number o }
+    {
+        self.placed(o).is_some_and(|p| {
+            self.kind_of(o) == kind && p.unit == number
+                || kind == UnitKind::Register && p.register == number
+        })
+    }
+
+    // The lowest operation that the unit serves.
+    pub(super) fn serving(&self, kind: UnitKind, number: u8) -> Option<usize>
+        ensures { result ≡ lowest (λ o. serves_on self.now (code_of kind) number o) (count (graph_on self.now)) }
+    {
+        (0..self.count()).find(|o| self.is_served(kind, number, *o))
     }
 }
 
-// Whether operation r has operation e as a source.
-fn is_reader(job: &Job, r: usize, e: usize) -> bool
-    ensures { result ≡ reads (graph_of job.now) r e }
-{
-    match operation_at(job, r) {
-        Operation::Add(_, a, b) | Operation::Multiply(_, _, a, b) => {
-            is_named(a.source, e) || is_named(b.source, e)
+impl<L: PriceList> Board<L> {
+    // The steps that a hired unit takes; 0 where none is hired.
+    fn steps<K: Kind>(&self, unit: Option<K::Width>) -> u8
+        ensures { result ≡ steps_of (L.prices (list_on self.now)) K.code (option_map K.shape unit) }
+    {
+        unit.map_or(0, |w| self.list.latency::<K>(w))
+    }
+
+    // The steps that the unit of a kind with a number takes; 0 where none is hired.
+    fn unit_steps(&self, kind: UnitKind, number: u8) -> u8
+        ensures { result ≡ steps_of (L.prices (list_on self.now)) (code_of kind) ((plan_on self.now).hired (code_of kind) number) }
+    {
+        let n = number as usize;
+        match kind {
+            UnitKind::Adder => self.steps::<Adder>(entry(&self.tables.adders, n)),
+            UnitKind::Multiplier => self.steps::<Multiplier>(entry(&self.tables.multipliers, n)),
+            UnitKind::Register => self.steps::<Register>(entry(&self.tables.registers, n)),
         }
     }
-}
 
-// The number of the kind of unit that an operation runs on.
-pub(super) fn kind_of(job: &Job, o: usize) -> u8
-    ensures { result ≡ kind_at (graph_of job.now) o }
-{
-    match operation_at(job, o) {
-        Operation::Add(..) => 0,
-        Operation::Multiply(..) => 1,
+    // The step at which an operation that is placed so finishes.
+    #[tactic(auto, unfolding(plans::specs::Plans::finish_with))]
+    pub(super) fn finish_of(&self, o: usize, p: Placing) -> u32
+        ensures { result ≡ finish (graph_on self.now) (L.prices (list_on self.now)) (plan_on self.now) o p }
+    {
+        p.start as u32 + self.unit_steps(self.kind_of(o), p.unit) as u32
     }
-}
 
-// Whether a unit is hired, and with a width that covers another.
-fn is_wide<K: Kind>(unit: Option<K::Width>, w: K::Width) -> bool
-    ensures { result ≡ wide (option_map K.Kind.shape unit) (K.Kind.shape w) }
-{
-    match unit {
-        Some(x) => covers::<K>(x, w),
-        None => false,
+    // Whether one of o, placed at p, and e reads the other before it finishes.
+    fn is_early(&self, o: usize, p: Placing, e: usize) -> bool
+        ensures { result ≡ disorder_on L.prices self.now o p e }
+    {
+        self.placed(e).is_some_and(|q| {
+            self.is_reader(o, e) && (p.start as u32) < self.finish_of(e, q)
+                || self.is_reader(e, o) && (q.start as u32) < self.finish_of(o, p)
+        })
     }
-}
 
-// The steps that a hired unit takes; 0 where none is hired.
-fn steps<K: Kind, L: PriceList>(list: &L, unit: Option<K::Width>) -> u8
-    ensures { result ≡ steps_of (L.PriceList.prices list.now) K.Kind.code (option_map K.Kind.shape unit) }
-{
-    match unit {
-        Some(w) => list.latency::<K>(w),
-        None => 0,
+    // The lowest operation that o, placed at p, reads or is read by too early.
+    pub(super) fn early(&self, o: usize, p: Placing) -> Option<usize>
+        ensures { result ≡ lowest (λ e. disorder_on L.prices self.now o p e) (count (graph_on self.now)) }
+    {
+        (0..self.count()).find(|e| self.is_early(o, p, *e))
     }
-}
 
-// Whether the unit covers the operation.
-pub(super) fn unit_covers(job: &Job, tables: &Tables, o: usize, unit: u8) -> bool
-    ensures { result ≡ wide (hired_in tables.now (kind_at (graph_of job.now) o) unit) (own_at (graph_of job.now) o) }
-{
-    let n = unit as usize;
-    match operation_at(job, o) {
-        Operation::Add(p, ..) => is_wide::<Adder>(entry(&tables.adders, n), p),
-        Operation::Multiply(p, q, ..) => is_wide::<Multiplier>(
-            entry(&tables.multipliers, n),
-            (p, q),
-        ),
+    // Whether o, placed at p, and e run on one unit at one step.
+    fn is_crowding(&self, o: usize, p: Placing, e: usize) -> bool
+        ensures { result ≡ crowding_on L.prices self.now o p e }
+    {
+        self.placed(e).is_some_and(|q| {
+            q.unit == p.unit
+                && self.kind_of(e) == self.kind_of(o)
+                && (p.start as u32) < self.finish_of(e, q)
+                && (q.start as u32) < self.finish_of(o, p)
+        })
     }
-}
 
-// The width of an operation's value.
-fn value_bits(job: &Job, o: usize) -> u8
-    ensures { result ≡ value_width (operation_at (graph_of job.now) o) }
-{
-    match operation_at(job, o) {
-        Operation::Add(p, ..) => p,
-        Operation::Multiply(p, q, ..) => p + q,
+    // The lowest other operation whose run overlaps that of o, placed at p, on its unit.
+    pub(super) fn crowded(&self, o: usize, p: Placing) -> Option<usize>
+        ensures { result ≡ lowest (λ e. crowding_on L.prices self.now o p e) (count (graph_on self.now)) }
+    {
+        (0..self.count()).find(|e| self.is_crowding(o, p, *e))
     }
-}
-
-// Whether the register covers the operation's value.
-pub(super) fn register_covers(job: &Job, tables: &Tables, o: usize, register: u8) -> bool
-    ensures { result ≡ wide (hired_in tables.now 2 register) (value_at (graph_of job.now) o) }
-{
-    is_wide::<Register>(
-        entry(&tables.registers, register as usize),
-        value_bits(job, o),
-    )
-}
-
-// The latency of the unit that an operation is put on.
-fn unit_steps<L: PriceList>(job: &Job, list: &L, tables: &Tables, o: usize, unit: u8) -> u8
-    ensures { result ≡ steps_of (L.PriceList.prices list.now) (kind_at (graph_of job.now) o) (hired_in tables.now (kind_at (graph_of job.now) o) unit) }
-{
-    let n = unit as usize;
-    match operation_at(job, o) {
-        Operation::Add(..) => steps::<Adder, L>(list, entry(&tables.adders, n)),
-        Operation::Multiply(..) => steps::<Multiplier, L>(list, entry(&tables.multipliers, n)),
-    }
-}
-
-// The step at which an operation that is placed so finishes.
-pub(super) fn finish_of<L: PriceList>(
-    job: &Job,
-    list: &L,
-    tables: &Tables,
-    o: usize,
-    p: Placing,
-) -> u32
-    ensures { result ≡ finish_with (graph_of job.now) (L.PriceList.prices list.now) (hired_in tables.now) o p }
-{
-    p.start as u32 + unit_steps(job, list, tables, o, p.unit) as u32
-}
-
-// Whether the unit of a kind with a number serves the operation.
-fn is_served(job: &Job, tables: &Tables, kind: u8, number: u8, o: usize) -> bool
-    ensures { result ≡ serves (graph_of job.now) kind number o ((plan_of tables.now).placed o) }
-{
-    let Some(p) = entry(&tables.placings, o) else {
-        return false;
-    };
-    let own = kind_of(job, o);
-    own == kind && p.unit == number || kind == 2 && p.register == number
-}
-
-// The lowest operation that the unit serves.
-pub(super) fn serving(job: &Job, tables: &Tables, kind: u8, number: u8) -> Option<usize>
-    ensures { result ≡ lowest (λ o. serves (graph_of job.now) kind number o ((plan_of tables.now).placed o)) (count (graph_of job.now)) }
-{
-    for o in 0..job.operations().len() {
-        if is_served(job, tables, kind, number, o) {
-            return Some(o);
-        }
-    }
-    None
-}
-
-// Whether one of o, placed at p, and e reads the other before it finishes.
-fn is_early<L: PriceList>(
-    job: &Job,
-    list: &L,
-    tables: &Tables,
-    o: usize,
-    p: Placing,
-    e: usize,
-) -> bool
-    ensures { result ≡ disorder (graph_of job.now) (L.PriceList.prices list.now) (plan_of tables.now) o p e ((plan_of tables.now).placed e) }
-{
-    let Some(q) = entry(&tables.placings, e) else {
-        return false;
-    };
-    is_reader(job, o, e) && (p.start as u32) < finish_of(job, list, tables, e, q)
-        || is_reader(job, e, o) && (q.start as u32) < finish_of(job, list, tables, o, p)
-}
-
-// The lowest operation that o, placed at p, reads or is read by too early.
-pub(super) fn early<L: PriceList>(
-    job: &Job,
-    list: &L,
-    tables: &Tables,
-    o: usize,
-    p: Placing,
-) -> Option<usize>
-    ensures { result ≡ lowest (λ e. disorder (graph_of job.now) (L.PriceList.prices list.now) (plan_of tables.now) o p e ((plan_of tables.now).placed e)) (count (graph_of job.now)) }
-{
-    for e in 0..job.operations().len() {
-        if is_early(job, list, tables, o, p, e) {
-            return Some(e);
-        }
-    }
-    None
-}
-
-// Whether o, placed at p, and e run on one unit at one step.
-fn is_crowding<L: PriceList>(
-    job: &Job,
-    list: &L,
-    tables: &Tables,
-    o: usize,
-    p: Placing,
-    e: usize,
-) -> bool
-    ensures { result ≡ crowding (graph_of job.now) (L.PriceList.prices list.now) (plan_of tables.now) o p e ((plan_of tables.now).placed e) }
-{
-    let Some(q) = entry(&tables.placings, e) else {
-        return false;
-    };
-    kind_of(job, e) == kind_of(job, o)
-        && q.unit == p.unit
-        && (p.start as u32) < finish_of(job, list, tables, e, q)
-        && (q.start as u32) < finish_of(job, list, tables, o, p)
-}
-
-// The lowest other operation whose run overlaps that of o, placed at p, on its unit.
-pub(super) fn crowded<L: PriceList>(
-    job: &Job,
-    list: &L,
-    tables: &Tables,
-    o: usize,
-    p: Placing,
-) -> Option<usize>
-    ensures { result ≡ lowest (λ e. crowding (graph_of job.now) (L.PriceList.prices list.now) (plan_of tables.now) o p e ((plan_of tables.now).placed e)) (count (graph_of job.now)) }
-{
-    for e in 0..job.operations().len() {
-        if is_crowding(job, list, tables, o, p, e) {
-            return Some(e);
-        }
-    }
-    None
 }

@@ -2,6 +2,8 @@
 use Rattle.std.specs.Prelude.{ℕ, List, ◌++◌, codes, decimal}
 use Rattle.faults.specs.declared.Fault.{Fault}
 use Rattle.faults.specs.declared.Fault.TheVariants.{UnknownCommand, CutShort, OutOfOrder, TooMany, OutOfRange, NamesNothing, FaultyList, CallOutOfRange, AlreadyThere, NotThere, StillServing, TooNarrow, TooLate, NotReady, UnitBusy, RegisterBusy, NoTime, BufferTooShort, SampleCount, OutOfMemory}
+use Rattle.faults.specs.declared.Maker.{Maker}
+use Rattle.faults.specs.declared.Maker.TheVariants.{Formula, Table, Grain, Wait}
 use Rattle.faults.specs.declared.Place.{Place}
 use Rattle.faults.specs.declared.Place.TheVariants.{At, Row}
 
@@ -27,6 +29,13 @@ number_of (NoTime operation) = 18
 number_of (BufferTooShort needed) = 19
 number_of (SampleCount wanted) = 21
 
+-- the number of a maker of price lists
+abbrev pub maker_number : Maker → ℕ
+maker_number Formula = 0
+maker_number Table = 1
+maker_number Grain = 2
+maker_number Wait = 3
+
 abbrev pub place_of : Fault → Place
 place_of OutOfMemory = At 0
 place_of (UnknownCommand at) = At at
@@ -35,7 +44,7 @@ place_of (OutOfOrder at) = At at
 place_of (TooMany at) = At at
 place_of (OutOfRange at) = At at
 place_of (NamesNothing at) = At at
-place_of (FaultyList maker row) = Row maker row
+place_of (FaultyList maker row) = Row (maker_number maker) row
 place_of (CallOutOfRange operand) = At operand
 place_of (AlreadyThere operand) = At operand
 place_of (NotThere operand) = At operand

@@ -5,7 +5,7 @@
 
 ghost use Rattle.std.specs.Prelude.{◌≡◌, Some};
 ghost use Rattle.faults.specs.declared.Fault.TheVariants.{OutOfMemory};
-ghost use Rattle.faults.specs.Faults.{number_of, place_of, line_of};
+ghost use Rattle.faults.specs.Faults.{number_of, maker_number, place_of, line_of};
 
 use std::alloc::{AllocError, AllocFailed};
 use std::error::Error;
@@ -22,7 +22,7 @@ pub enum Fault {
     OutOfRange(usize),
     NamesNothing(usize),
     // a price list's maker and its first faulty row
-    FaultyList(u8, u8),
+    FaultyList(Maker, u8),
     // a call's operand, counted from 0
     CallOutOfRange(usize),
     AlreadyThere(usize),
@@ -48,7 +48,16 @@ pub enum Fault {
     OutOfMemory,
 }
 
-// Where a fault lies: one number, or two for a faulty price list.
+// What makes a price list.
+#[derive(Clone, Copy, PartialEq, Eq, Debug)]
+pub enum Maker {
+    Formula,
+    Table,
+    Grain,
+    Wait,
+}
+
+// Where a fault lies: one number, or a maker's number and a row for a faulty price list.
 #[derive(Clone, Copy, PartialEq, Eq, Debug)]
 pub enum Place {
     At(usize),
@@ -105,12 +114,26 @@ impl Fault {
             | Fault::NoTime(at)
             | Fault::BufferTooShort(at)
             | Fault::SampleCount(at) => Place::At(at),
-            Fault::FaultyList(maker, row) => Place::Row(maker, row),
+            Fault::FaultyList(maker, row) => Place::Row(maker.into(), row),
             Fault::OutOfMemory => Place::At(0),
         }
     }
 }
 
+impl From<Maker> for u8 {
+    ghost from_gives = { λ maker number. number ≡ maker_number maker };
+
+    fn from(maker: Maker) -> u8 {
+        match maker {
+            Maker::Formula => 0,
+            Maker::Table => 1,
+            Maker::Grain => 2,
+            Maker::Wait => 3,
+        }
+    }
+}
+
+// By hand, as the conversions below: so the contracts say what is written, and what `?` makes.
 impl fmt::Display for Fault {
     ghost output = { λ f. Some (line_of f) };
 

@@ -1,30 +1,57 @@
 // Kinds of units and the lines of faults.
-use faults::Fault;
+use faults::{Fault, Maker};
 use std::process::Abort;
 use std::test::Fail;
 use widths::{Adder, Kind, Multiplier, Register, covers, lies_under};
 
+// Whether each of these is a width of the kind.
+fn widths_are<K: Kind>(rt: &impl Abort, cases: &[(K::Width, bool)]) {
+    for (width, is_width) in cases {
+        assert_eq!(rt; K::is_width(*width), *is_width);
+    }
+}
+
+// Whether each of these is a cell of the kind.
+fn cells_are<K: Kind>(rt: &impl Abort, cases: &[(K::Width, bool)]) {
+    for (cell, is_cell) in cases {
+        assert_eq!(rt; K::is_cell(*cell), *is_cell);
+    }
+}
+
 fn adder_widths(rt: &impl Abort) {
-    assert!(rt;
-        !Adder::is_width(0) && Adder::is_width(1) && Adder::is_width(40) && !Adder::is_width(41)
-    );
-    assert!(rt;
-        !Adder::is_cell(0) && Adder::is_cell(1) && Adder::is_cell(40) && !Adder::is_cell(41)
-    );
+    let cases = [(0, false), (1, true), (40, true), (41, false)];
+    widths_are::<Adder>(rt, &cases);
+    cells_are::<Adder>(rt, &cases);
 }
 
 fn multiplier_widths(rt: &impl Abort) {
-    assert!(rt; Multiplier::is_width((1, 1)) && Multiplier::is_width((40, 24)));
-    assert!(rt; !Multiplier::is_width((3, 4)) && !Multiplier::is_width((41, 1)));
-    assert!(rt; !Multiplier::is_width((40, 25)) && !Multiplier::is_width((5, 0)));
-    assert!(rt; Multiplier::is_cell((1, 24)) && Multiplier::is_cell((40, 24)));
-    assert!(rt; !Multiplier::is_cell((41, 1)) && !Multiplier::is_cell((40, 25)));
-    assert!(rt; !Multiplier::is_cell((0, 1)) && !Multiplier::is_cell((1, 0)));
+    widths_are::<Multiplier>(
+        rt,
+        &[
+            ((1, 1), true),
+            ((40, 24), true),
+            ((3, 4), false),
+            ((41, 1), false),
+            ((40, 25), false),
+            ((5, 0), false),
+        ],
+    );
+    cells_are::<Multiplier>(
+        rt,
+        &[
+            ((1, 24), true),
+            ((40, 24), true),
+            ((41, 1), false),
+            ((40, 25), false),
+            ((0, 1), false),
+            ((1, 0), false),
+        ],
+    );
 }
 
 fn register_widths(rt: &impl Abort) {
-    assert!(rt; !Register::is_width(0) && Register::is_width(64) && !Register::is_width(65));
-    assert!(rt; Register::is_cell(1) && Register::is_cell(64) && !Register::is_cell(65));
+    widths_are::<Register>(rt, &[(0, false), (64, true), (65, false)]);
+    cells_are::<Register>(rt, &[(1, true), (64, true), (65, false)]);
 }
 
 #[test]
@@ -49,11 +76,12 @@ fn covering(rt: HostRuntime) {
 
 #[test]
 fn fault_lines(rt: HostRuntime) -> Result<(), Fail> {
-    let cut_short = format!(in rt.alloc(); "{}", Fault::CutShort(14))?;
-    assert!(rt; cut_short.as_str() == "refused 2 14");
-    let faulty = format!(in rt.alloc(); "{}", Fault::FaultyList(2, 0))?;
-    assert!(rt; faulty.as_str() == "refused 7 2 0");
-    let memory = format!(in rt.alloc(); "{}", Fault::OutOfMemory)?;
-    assert!(rt; memory.as_str() == "refused 0 0");
+    for (fault, line) in [
+        (Fault::CutShort(14), "refused 2 14"),
+        (Fault::FaultyList(Maker::Grain, 0), "refused 7 2 0"),
+        (Fault::OutOfMemory, "refused 0 0"),
+    ] {
+        assert_eq!(rt; format!(in rt.alloc(); "{fault}")?.as_str(), line);
+    }
     Ok(())
 }

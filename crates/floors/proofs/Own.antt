@@ -12,7 +12,7 @@ use Rattle.graphs.specs.declared.Operation.TheVariants.{Add, Multiply}
 use Rattle.graphs.specs.Graphs.{Graph, WellFormed, operation_at, count, kind_of, width_of, value_width}
 use Rattle.prices.specs.Sums.{flag}
 use Rattle.prices.specs.Prices.{Prices}
-use Rattle.prices.proofs.Searches.{none_some}
+use Rattle.std.proofs.lemmas.Option.{none-some}
 use Rattle.plans.specs.declared.Placing.{Placing}
 use Rattle.plans.specs.Plans.{Plan, Complete, names, reads, kind_at, own_at, value_at, register, units, steps_of, finish_with, finish}
 use Rattle.plans.proofs.Looks.{some_same, cond_some}
@@ -24,7 +24,7 @@ use Rattle.floors.proofs.Times.{left}
 
 flag_some : {A : Type 0} (b : Bool) (x y : A) → flag b x ≡ Some y → (b ≡ true) × (x ≡ y)
 flag_some true x y e = (refl, some_same e)
-flag_some false x y e = absurd (none_some e)
+flag_some false x y e = absurd (none-some _ e)
 
 -- the value of an operation whose width is one of its kind fits a register
 value_valid : (x : Operation) → valid (kind_of x) (width_of x) ≡ true → valid 2 (sides_of (value_width x) 0) ≡ true

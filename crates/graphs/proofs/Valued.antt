@@ -3,7 +3,7 @@ use Rattle.std.proofs.Common.{◌≡◌, ℕ, zero, suc, ◌+◌, ◌^◌, ◌<�
 use lib.Signed.{mag}
 use Rattle.std.specs.List.{range_with_len}
 use Rattle.std.proofs.lemmas.Int.{to_z-of_z}
-use Rattle.std.proofs.lemmas.List.{drop_more, set_at, get_or_append_left, length-map, length-take-le, take_all, map_more}
+use Rattle.std.proofs.lemmas.List.{drop_more, set_at, get_or_append_left, length-map, length-take-le, map_more}
 use Rattle.std.proofs.lemmas.List.FromFn.{length-map-range_with_len, map-range_with_len_more, get_or-map-range_with_len}
 use Rattle.std.proofs.lemmas.Bool.{and_parts, and_from, ltb-true, leb-true, lt-ltb}
 use Rattle.widths.specs.Kinds.{valid, sides_of}
@@ -99,17 +99,17 @@ front_more front vs out o v e l h =
     ∙ sym (append_assoc front (v ∷ []) (drop (o + 1) out))
 
 -- the operations of a well-formed graph, with the values of the first o of them at the front of a buffer
-module _ (G : Graph) (wf : WellFormed G) (xs : List ℤ) (widths : List ℕ) (ops : List Operation) (widths_are : widths ≡ G.inputs) (ops_are : ops ≡ G.operations) (o : ℕ) (there : o < length ops) where
+module _ (G : Graph) (wf : WellFormed G) (xs : List ℤ) (ops : List Operation) (ops_are : ops ≡ G.operations) (o : ℕ) (there : o < length ops) where
   inside : o < count G
   inside = subst (λ x. o < length x) ops_are there
 
-  fine : good_operation (length widths) o (get_or ops o no_operation) ≡ true
-  fine = ap₂ (λ x y. good_operation (length x) o (get_or y o no_operation)) widths_are ops_are ∙ wf.operation o inside
+  fine : good_operation (length G.inputs) o (get_or ops o no_operation) ≡ true
+  fine = ap (λ x. good_operation (length G.inputs) o (get_or x o no_operation)) ops_are ∙ wf.operation o inside
 
-  pub value_ready : (m : ℕ) → o ≤ m → good_operation (length widths) m (get_or ops o no_operation) ≡ true
-  value_ready m h = operation_more (length widths) o m (get_or ops o no_operation) h fine
+  pub value_ready : (m : ℕ) → o ≤ m → good_operation (length G.inputs) m (get_or ops o no_operation) ≡ true
+  value_ready m h = operation_more (length G.inputs) o m (get_or ops o no_operation) h fine
 
-  module _ (vs out : List ℤ) (r : ℤ) (fits : SFits w64 r) (is : r ≡ operation_value widths xs (λ e. get_or vs e (pos 0)) (get_or ops o no_operation)) (before : vs ≡ map (value G xs) (range_with_len 0 o) ++ drop o out) where
+  module _ (vs out : List ℤ) (r : ℤ) (fits : SFits w64 r) (is : r ≡ operation_value G.inputs xs (λ e. get_or vs e (pos 0)) (get_or ops o no_operation)) (before : vs ≡ map (value G xs) (range_with_len 0 o) ++ drop o out) where
     at_front : (e : ℕ) → e < o → get_or vs e (pos 0) ≡ value G xs e
     at_front e h =
         let l = length-map-range_with_len (value G xs) 0 o in
@@ -120,8 +120,8 @@ module _ (G : Graph) (wf : WellFormed G) (xs : List ℤ) (widths : List ℕ) (op
     next_value : to_z w64 (of_z w64 r) ≡ value G xs o
     next_value =
         to_z-of_z w64 r fits ∙ is
-        ∙ operation_same widths xs (λ e. get_or vs e (pos 0)) (value G xs) o at_front (length widths) (get_or ops o no_operation) fine
-        ∙ ap₂ (λ x y. operation_value x xs (value G xs) (get_or y o no_operation)) widths_are ops_are
+        ∙ operation_same G.inputs xs (λ e. get_or vs e (pos 0)) (value G xs) o at_front (length G.inputs) (get_or ops o no_operation) fine
+        ∙ ap (λ x. operation_value G.inputs xs (value G xs) (get_or x o no_operation)) ops_are
         ∙ sym (follows G wf xs o inside)
 
     pub value_more : o < length out → set vs o (to_z w64 (of_z w64 r)) ≡ map (value G xs) (range_with_len 0 (o + 1)) ++ drop (o + 1) out
@@ -129,21 +129,12 @@ module _ (G : Graph) (wf : WellFormed G) (xs : List ℤ) (widths : List ℕ) (op
         front_more (map (value G xs) (range_with_len 0 o)) vs out o (to_z w64 (of_z w64 r)) before (length-map-range_with_len (value G xs) 0 o) h
         ∙ ap (λ x. x ++ drop (o + 1) out) (ap (λ x. map (value G xs) (range_with_len 0 o) ++ x ∷ []) next_value ∙ sym (map-range_with_len_more (value G xs) 0 o o (omega arith)))
 
-pub value_all : (f : ℕ → ℤ) (vs out : List ℤ) (o n : ℕ) → vs ≡ map f (range_with_len 0 o) ++ drop o out → o ≡ n → vs ≡ overwritten (map f (range_with_len 0 n)) out
-value_all f vs out o n e is = e ∙ ap (λ x. map f (range_with_len 0 x) ++ drop x out) is ∙ ap (λ x. map f (range_with_len 0 n) ++ drop x out) (sym (length-map-range_with_len f 0 n))
-
 -- the same for values that are looked up by number
 module _ (f : ℕ → ℤ) (named : List ℕ) (out : List ℤ) where
   pub pick_more : (vs : List ℤ) (k : ℕ) (v : ℤ) → vs ≡ map f (take k named) ++ drop k out → k < length named → k < length out → v ≡ f (get_or named k 0) → set vs k v ≡ map f (take (k + 1) named) ++ drop (k + 1) out
   pick_more vs k v e there h is =
       front_more (map f (take k named)) vs out k v e (length-map (take k named) f ∙ length-take-le k named (omega arith)) h
       ∙ ap (λ x. x ++ drop (k + 1) out) (ap (λ x. map f (take k named) ++ x ∷ []) is ∙ sym (map_more f named k 0 there))
-
-  pub pick_all : (vs : List ℤ) (k : ℕ) → vs ≡ map f (take k named) ++ drop k out → length named ≡ k → vs ≡ overwritten (map f named) out
-  pick_all vs k e h =
-      e
-      ∙ ap (λ x. map f x ++ drop k out) (take_all k named (omega arith))
-      ∙ ap (λ x. map f named ++ drop x out) (sym h ∙ sym (length-map named f))
 
 -- the values of named operations, taken from a buffer that begins with all of them
 picked_front : (f : ℕ → ℤ) (n : ℕ) (rest : List ℤ) (named : List ℕ) → ((k : ℕ) → k < length named → get_or named k 0 < n) → map (λ o. get_or (map f (range_with_len 0 n) ++ rest) o (pos 0)) named ≡ map f named

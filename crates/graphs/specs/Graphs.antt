@@ -1,5 +1,5 @@
 -- Sequencing graphs, and when one is well-formed.
-use Rattle.std.specs.Prelude.{◌≡◌, ℕ, ◌+◌, ◌<◌, ◌≤◌, Bool, true, ◌&&◌, List, length, nat_le, nat_lt, slice_index, slice_index_or}
+use Rattle.std.specs.Prelude.{◌≡◌, ℕ, ◌+◌, ◌<◌, ◌≤◌, Bool, true, ◌&&◌, List, [], ◌∷◌, length, nat_le, nat_lt, slice_index, slice_index_or}
 use Rattle.widths.specs.declared.Sides.{Sides}
 use Rattle.widths.specs.Kinds.{sides_of, valid}
 use Rattle.graphs.specs.declared.Source.{Source}
@@ -37,6 +37,11 @@ kind_of (Multiply p q a b) = 1
 abbrev pub width_of : Operation → Sides
 width_of (Add p a b) = sides_of p 0
 width_of (Multiply p q a b) = sides_of p q
+
+-- what its two ports read
+abbrev pub operands_of : Operation → List Operand
+operands_of (Add p a b) = a ∷ b ∷ []
+operands_of (Multiply p q a b) = a ∷ b ∷ []
 
 -- the width of its value
 abbrev pub value_width : Operation → ℕ

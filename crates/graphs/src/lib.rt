@@ -1,8 +1,20 @@
 // Sequencing graphs and the commands of the sheets that describe them: the definitions that the product's promises rest on.
 //
-// There is hardly any code here. `specs/` says when a graph is well-formed, how its sheet is written and read, and what
-// values its operations have; `proofs/` has the laws of reading and of values, for the calls that promise them.
+// There is little code here: what an operation is, and `Commands`, which reads the commands of any format from their bytes.
+// `specs/` says when a graph is well-formed, how its sheet is written and read, and what values its operations have; `proofs/`
+// has the laws of reading and of values, for the calls that promise them.
 #![tactic(auto)]
+
+ghost use Rattle.std.specs.Prelude.{◌≡◌};
+ghost use Rattle.widths.specs.Kinds.{code_of};
+ghost use Rattle.graphs.specs.Graphs.{kind_of, width_of, operands_of};
+
+use widths::{Sides, UnitKind};
+
+mod coded;
+mod commands;
+
+pub use coded::{Coded, Commands};
 
 // Where an operand comes from: an input, or an operation before this one, by number.
 #[derive(Clone, Copy, PartialEq, Eq, Debug)]
@@ -23,6 +35,37 @@ pub struct Operand {
 pub enum Operation {
     Add(u8, Operand, Operand),
     Multiply(u8, u8, Operand, Operand),
+}
+
+impl Operation {
+    // The kind of unit that it runs on.
+    pub fn kind(self) -> UnitKind
+        ensures { code_of result ≡ kind_of self }
+    {
+        match self {
+            Operation::Add(..) => UnitKind::Adder,
+            Operation::Multiply(..) => UnitKind::Multiplier,
+        }
+    }
+
+    // Its own width.
+    pub fn sides(self) -> Sides
+        ensures { result ≡ width_of self }
+    {
+        match self {
+            Operation::Add(p, ..) => p.into(),
+            Operation::Multiply(p, q, ..) => (p, q).into(),
+        }
+    }
+
+    // What its two ports read, in order.
+    pub fn operands(self) -> [Operand; 2]
+        ensures { result ≡ operands_of self }
+    {
+        match self {
+            Operation::Add(_, a, b) | Operation::Multiply(_, _, a, b) => [a, b],
+        }
+    }
 }
 
 // An operand as it is written: the source's byte and the drop.

@@ -1,5 +1,5 @@
 // Answering an order: its sheet is read, and its requests are made to a board one after the other.
-ghost use Rattle.std.specs.Prelude.{◌≡◌, ◌+◌, ◌≤◌, ◌++◌, length, IfSome, string_bytes, MatchResult};
+ghost use Rattle.std.specs.Prelude.{◌≡◌, ◌+◌, ◌≤◌, ◌++◌, length, string_bytes, MatchResult};
 ghost use Rattle.faults.specs.declared.Fault.TheVariants.{OutOfMemory};
 ghost use Rattle.faults.specs.Faults.{line_of};
 ghost use Rattle.graphs.specs.Reading.{read};
@@ -8,23 +8,13 @@ ghost use Rattle.orders.specs.Orders.{answer_to, plan_then, answers_from, line, 
 ghost use Rattle.orders.specs.Steps.{told, Writes};
 
 use super::replies::Reply;
-use super::requests::{Request, request_at};
+use super::requests::Request;
 use board::Board;
 use faults::Fault;
+use graphs::Commands;
 use prices::{Formula, PriceList};
 use sheet::Job;
 use std::alloc::Global;
-use std::fmt::Display;
-
-// Writes a line; a `String` refuses it only for want of memory.
-pub(super) fn push_line<D: Display + Drop>(out: &mut String, text: D) -> Result<(), Fault>
-    ensures { MatchResult result (λ _. IfSome (D.Display.output text) (λ bs. string_bytes out.new ≡ string_bytes out.old ++ line bs)) (λ f. f ≡ OutOfMemory) }
-{
-    match out.writeln(text) {
-        Ok(()) => Ok(()),
-        Err(_) => Err(Fault::OutOfMemory),
-    }
-}
 
 // Makes a request to the board.
 fn obey<L: PriceList>(board: &mut Board<L>, request: Request) -> Result<Reply, Fault>
@@ -36,7 +26,7 @@ fn obey<L: PriceList>(board: &mut Board<L>, request: Request) -> Result<Reply, F
         Request::Hire(kind, number, w, v) => board.hire(kind, number, w, v)?,
         Request::Dismiss(kind, number) => board.dismiss(kind, number)?,
         Request::Place(operation, unit, start, register) => {
-            board.place(operation, unit, start as u16, register)?
+            board.place(operation, unit, u16::from(start), register)?
         }
         Request::Lift(operation) => board.lift(operation)?,
         Request::Charge => {
@@ -58,26 +48,22 @@ fn answer_request<L: PriceList>(
     ensures kept { (job_on board.new ≡ job_on board.old) × (list_on board.new ≡ list_on board.old) }
 {
     match obey(board, request) {
-        Ok(reply) => push_line(out, reply),
-        Err(fault) => push_line(out, fault),
+        Ok(reply) => out.writeln(reply)?,
+        Err(fault) => out.writeln(fault)?,
     }
+    Ok(())
 }
 
-// Answers the requests from a position on; the first that cannot be read ends them.
+// Answers the requests that are left; the first that cannot be read ends them.
 fn answer_requests<L: PriceList>(
     board: &mut Board<L>,
-    bytes: &[u8],
-    from: usize,
+    requests: Commands<'_, Request>,
     out: &mut String,
 ) -> Result<(), Fault>
-    requires { from ≤ length bytes.now }
-    ensures { Writes (answers_from (graph_on board.old) (L.PriceList.prices (list_on board.old)) (plan_on board.old) bytes.now from) (string_bytes out.old) (string_bytes out.new) result }
+    ensures { Writes (answers_from (graph_on board.old) (L.PriceList.prices (list_on board.old)) (plan_on board.old) requests.entry.bytes requests.entry.at) (string_bytes out.old) (string_bytes out.new) result }
 {
-    let mut at = from;
-    while at < bytes.len() {
-        let (request, next) = request_at(bytes, at)?;
-        answer_request(board, request, out)?;
-        at = next;
+    for (_, request) in requests {
+        answer_request(board, request?, out)?;
     }
     Ok(())
 }
@@ -86,23 +72,19 @@ fn answer_requests<L: PriceList>(
 fn sheet_in(bytes: &[u8]) -> Result<&[u8], Fault>
     ensures { MatchResult result (λ s. (length s.now + 2 ≤ length bytes.now) × (order_text bytes.now ≡ opened (read s.now) bytes.now (length s.now + 2))) (λ f. order_text bytes.now ≡ line (line_of f)) }
 {
-    if bytes.len() < 2 {
+    let [high, low, rest @ ..] = bytes else {
         return Err(Fault::CutShort(0));
-    }
-    let length = bytes[0] as usize * 256 + bytes[1] as usize;
-    let rest = &bytes[2..];
-    if rest.len() < length {
-        return Err(Fault::CutShort(0));
-    }
-    Ok(&rest[..length])
+    };
+    let length = u16::from_be_bytes([*high, *low]);
+    rest.get(..usize::from(length)).ok_or(Fault::CutShort(0))
 }
 
 // Reads the sheet of an order and answers the requests behind it, on a board with both rates 1.
-pub(super) fn answer_order(heap: Global, bytes: &[u8], out: &mut String) -> Result<(), Fault>
+pub(super) fn answer_order(alloc: Global, bytes: &[u8], out: &mut String) -> Result<(), Fault>
     ensures { Writes (order_text bytes.now) (string_bytes out.old) (string_bytes out.new) result }
 {
     let sheet = sheet_in(bytes)?;
-    let job = Job::read(heap, sheet)?;
+    let job = Job::read(alloc, sheet)?;
     let mut board = Board::new(job, Formula::new(1, 1)?);
-    answer_requests(&mut board, bytes, sheet.len() + 2, out)
+    answer_requests(&mut board, Commands::new(bytes, sheet.len() + 2), out)
 }

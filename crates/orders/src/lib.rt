@@ -12,33 +12,30 @@ mod answers;
 mod replies;
 mod requests;
 
-use answers::{answer_order, push_line};
+use answers::answer_order;
 use faults::Fault;
 use std::alloc::Global;
 
 // The bytes of an order that count.
 pub const MOST_BYTES: usize = 2048;
 
+#[tactic(auto, using(std::proofs::lemmas::List::take_min))]
 fn first_bytes(bytes: &[u8]) -> &[u8]
     ensures { result.now ≡ take most_bytes bytes.now }
 {
-    if bytes.len() > MOST_BYTES {
-        &bytes[..MOST_BYTES]
-    } else {
-        bytes
-    }
+    &bytes[..MOST_BYTES.min(bytes.len())]
 }
 
 // The lines that answer an order; the only refusal is want of memory.
-pub fn lines(heap: Global, bytes: &[u8]) -> Result<String, Fault>
+pub fn lines(alloc: Global, bytes: &[u8]) -> Result<String, Fault>
     ensures { MatchResult result (λ text. string_bytes text ≡ order_text (take most_bytes bytes.now)) (λ f. f ≡ OutOfMemory) }
 {
-    let mut out = String::new(heap);
-    match answer_order(heap, first_bytes(bytes), &mut out) {
+    let mut out = String::new(alloc);
+    match answer_order(alloc, first_bytes(bytes), &mut out) {
         Ok(()) => Ok(out),
         Err(Fault::OutOfMemory) => Err(Fault::OutOfMemory),
         Err(fault) => {
-            push_line(&mut out, fault)?;
+            out.writeln(fault)?;
             Ok(out)
         }
     }

@@ -4,36 +4,40 @@
 use board::Board;
 use faults::Fault;
 use prices::{Formula, PriceList};
-use sheet::{Job, Operation};
-use std::alloc::AllocError;
+use sheet::Job;
 use std::{fmt, fs};
+use widths::UnitKind;
 
+const KINDS: [UnitKind; 3] = [UnitKind::Adder, UnitKind::Multiplier, UnitKind::Register];
+
+// A unit or a register, by its number among those of its kind.
 #[derive(Clone, Copy)]
-enum Kind {
-    Adder,
-    Multiplier,
-    Register,
+struct Unit {
+    kind: UnitKind,
+    number: u8,
 }
 
-const KINDS: [Kind; 3] = [Kind::Adder, Kind::Multiplier, Kind::Register];
-
+// A call with its operands in the order in which the board takes them. Named fields would make six lines of a row below.
 #[derive(Clone, Copy)]
 enum Call {
-    Hire(Kind, u8, u8, u8),
+    // a kind, a number, and the sides of the width: one for each port of a multiplier, else one and 0
+    Hire(UnitKind, u8, u8, u8),
+    // an operation, its unit, its first step, and the register of its value
     Place(u8, u8, u16, u8),
+    // an operation
     Lift(u8),
 }
 
 const CALLS: [Call; 22] = [
     // the units, and registers that can be shared
-    Call::Hire(Kind::Adder, 0, 25, 0),
-    Call::Hire(Kind::Adder, 1, 19, 0),
-    Call::Hire(Kind::Multiplier, 0, 19, 17),
-    Call::Hire(Kind::Multiplier, 1, 33, 21),
-    Call::Hire(Kind::Multiplier, 2, 40, 12),
-    Call::Hire(Kind::Register, 0, 54, 0),
-    Call::Hire(Kind::Register, 1, 38, 0),
-    Call::Hire(Kind::Register, 2, 25, 0),
+    Call::Hire(UnitKind::Adder, 0, 25, 0),
+    Call::Hire(UnitKind::Adder, 1, 19, 0),
+    Call::Hire(UnitKind::Multiplier, 0, 19, 17),
+    Call::Hire(UnitKind::Multiplier, 1, 33, 21),
+    Call::Hire(UnitKind::Multiplier, 2, 40, 12),
+    Call::Hire(UnitKind::Register, 0, 54, 0),
+    Call::Hire(UnitKind::Register, 1, 38, 0),
+    Call::Hire(UnitKind::Register, 2, 25, 0),
     // the longest chain first, which fills the 18 steps
     Call::Place(0, 0, 0, 1),
     Call::Place(2, 1, 2, 0),
@@ -54,28 +58,10 @@ const CALLS: [Call; 22] = [
     Call::Place(0, 0, 0, 2),
 ];
 
-impl Kind {
-    fn number(self) -> u8 {
-        match self {
-            Kind::Adder => 0,
-            Kind::Multiplier => 1,
-            Kind::Register => 2,
-        }
-    }
-
-    fn name(self) -> &'static str {
-        match self {
-            Kind::Adder => "adder",
-            Kind::Multiplier => "multiplier",
-            Kind::Register => "register",
-        }
-    }
-}
-
 impl Call {
     fn made<L: PriceList>(self, board: &mut Board<L>) -> Result<(), Fault> {
         match self {
-            Call::Hire(kind, number, w, v) => board.hire(kind.number(), number, w, v),
+            Call::Hire(kind, number, w, v) => board.hire(kind.into(), number, w, v),
             Call::Place(operation, unit, start, register) => {
                 board.place(operation, unit, start, register)
             }
@@ -87,12 +73,10 @@ impl Call {
 impl fmt::Display for Call {
     fn fmt<W: fmt::Write>(&self, f: &mut fmt::Formatter<W>) -> fmt::Result {
         match *self {
-            Call::Hire(Kind::Multiplier, number, p, q) => {
+            Call::Hire(UnitKind::Multiplier, number, p, q) => {
                 write!(f, "hire multiplier {number} of width {p} x {q}")
             }
-            Call::Hire(kind, number, w, _) => {
-                write!(f, "hire {} {number} of width {w}", kind.name())
-            }
+            Call::Hire(kind, number, w, _) => write!(f, "hire {kind} {number} of width {w}"),
             Call::Place(operation, unit, start, register) => write!(
                 f,
                 "place operation {operation} on unit {unit} at step {start} into register {register}"
@@ -102,13 +86,62 @@ impl fmt::Display for Call {
     }
 }
 
-fn main(rt: HostRuntime) -> anyhow::Result<()> {
-    show_plan(&rt, "nine.sheet")
+impl fmt::Display for Unit {
+    fn fmt<W: fmt::Write>(&self, f: &mut fmt::Formatter<W>) -> fmt::Result {
+        write!(f, "{} {}", self.kind, self.number)
+    }
 }
 
-fn show_plan(rt: &HostRuntime, sheet: &str) -> anyhow::Result<()> {
-    println!(rt; "plan for {sheet}")?;
-    let bytes = fs::read(rt, sheet)?;
+impl Unit {
+    fn is_hired<L: PriceList>(self, board: &Board<L>) -> bool {
+        board.unit(self.kind.into(), self.number).is_some()
+    }
+
+    // The operation that is there at a step.
+    fn mark<L: PriceList>(self, board: &Board<L>, step: u32) -> char {
+        (0..64)
+            .find(|operation| self.has(board, *operation, step))
+            .map_or('.', |operation| digit(u32::from(operation)))
+    }
+
+    // Whether an operation runs on the unit at a step, or its value is alive in the register.
+    fn has<L: PriceList>(self, board: &Board<L>, operation: u8, step: u32) -> bool {
+        match self.kind {
+            UnitKind::Register => self.holds(board, operation, step),
+            UnitKind::Adder | UnitKind::Multiplier => self.runs(board, operation, step),
+        }
+    }
+
+    fn holds<L: PriceList>(self, board: &Board<L>, operation: u8, step: u32) -> bool {
+        board.life(operation).is_some_and(|life| {
+            life.register == self.number && (life.from..=life.through).contains(&step)
+        })
+    }
+
+    fn runs<L: PriceList>(self, board: &Board<L>, operation: u8, step: u32) -> bool {
+        self.serves(board.job(), operation)
+            && board
+                .placing(operation)
+                .zip(board.finish(operation))
+                .is_some_and(|(placing, finish)| {
+                    placing.unit == self.number
+                        && (u32::from(placing.start)..finish).contains(&step)
+                })
+    }
+
+    // Whether an operation runs on units of this kind.
+    fn serves(self, job: &Job, operation: u8) -> bool {
+        job.operations()
+            .get(usize::from(operation))
+            .is_some_and(|operation| operation.kind() == self.kind)
+    }
+}
+
+const SHEET: &str = "nine.sheet";
+
+fn main(rt: HostRuntime) -> anyhow::Result<()> {
+    println!(rt; "plan for {SHEET}")?;
+    let bytes = fs::read(&rt, SHEET)?;
     let job = Job::read(rt.alloc(), &bytes)?;
     let mut board = Board::new(job, Formula::new(1, 1)?);
     for call in CALLS {
@@ -121,96 +154,31 @@ fn show_plan(rt: &HostRuntime, sheet: &str) -> anyhow::Result<()> {
     println!(rt; "  charge {units} {registers}")?;
     let complete = if board.is_complete() { "yes" } else { "no" };
     println!(rt; "  complete: {complete}")?;
-    show_chart(rt, &board)
+    show_chart(&rt, &board)
 }
 
 // A row for each unit and a character for each step: the operation that runs there, or whose value is alive.
-fn show_chart<L: PriceList>(rt: &HostRuntime, board: &Board<L>) -> anyhow::Result<()> {
-    let limit = board.job().limit() as u32;
-    let mut steps = String::new(rt.alloc());
-    for step in 0..limit + 1 {
-        steps.push(digit(step))?;
-    }
+fn show_chart<L: PriceList>(
+    rt: &(impl Print + AllocGlobal),
+    board: &Board<L>,
+) -> anyhow::Result<()> {
+    let limit = u32::from(board.job().limit());
+    let steps: String = (0..=limit).map(digit).collect(rt.alloc())?;
     println!(rt; "  step         {steps}")?;
     for kind in KINDS {
-        for number in 0..64u8 {
-            if board.unit(kind.number(), number).is_some() {
-                show_row(rt, board, kind, number)?;
-            }
+        let units = (0..64).map(|number| Unit { kind, number });
+        for unit in units.filter(|unit| unit.is_hired(board)) {
+            let row: String = (0..=limit)
+                .map(|step| unit.mark(board, step))
+                .collect(rt.alloc())?;
+            let label = format!(in rt.alloc(); "{unit}")?;
+            println!(rt; "  {label:<13}{row}")?;
         }
     }
     Ok(())
 }
 
-fn show_row<L: PriceList>(
-    rt: &HostRuntime,
-    board: &Board<L>,
-    kind: Kind,
-    number: u8,
-) -> anyhow::Result<()> {
-    let mut row = String::new(rt.alloc());
-    for step in 0..board.job().limit() as u32 + 1 {
-        row.push(mark(board, kind, number, step))?;
-    }
-    let label = format!(in rt.alloc(); "{} {number}", kind.name())?;
-    println!(rt; "  {label:<13}{row}")?;
-    Ok(())
-}
-
+// The last digit of a number.
 fn digit(n: u32) -> char {
-    match n % 10 {
-        0 => '0',
-        1 => '1',
-        2 => '2',
-        3 => '3',
-        4 => '4',
-        5 => '5',
-        6 => '6',
-        7 => '7',
-        8 => '8',
-        _ => '9',
-    }
-}
-
-// What a unit does at a step.
-fn mark<L: PriceList>(board: &Board<L>, kind: Kind, number: u8, step: u32) -> char {
-    for o in 0..64u8 {
-        let busy = match kind {
-            Kind::Register => is_alive(board, number, o, step),
-            _ => runs(board, kind, number, o, step),
-        };
-        if busy {
-            return digit(o as u32);
-        }
-    }
-    '.'
-}
-
-fn is_alive<L: PriceList>(board: &Board<L>, register: u8, o: u8, step: u32) -> bool {
-    match board.life(o) {
-        Some(life) => life.register == register && life.from <= step && step <= life.through,
-        None => false,
-    }
-}
-
-fn runs<L: PriceList>(board: &Board<L>, kind: Kind, number: u8, o: u8, step: u32) -> bool {
-    let Some(placing) = board.placing(o) else {
-        return false;
-    };
-    let Some(finish) = board.finish(o) else {
-        return false;
-    };
-    is_of(board.job(), o, kind)
-        && placing.unit == number
-        && placing.start as u32 <= step
-        && step < finish
-}
-
-// Whether an operation runs on units of this kind.
-fn is_of(job: &Job, o: u8, kind: Kind) -> bool {
-    match (job.operations().get(o as usize), kind) {
-        (Some(Operation::Add(..)), Kind::Adder) => true,
-        (Some(Operation::Multiply(..)), Kind::Multiplier) => true,
-        _ => false,
-    }
+    char::from_digit(n % 10, 10).unwrap()
 }

@@ -10,7 +10,8 @@ use Rattle.faults.specs.declared.Fault.TheVariants.{StillServing}
 use Rattle.prices.specs.Sums.{AllNone}
 use Rattle.plans.specs.Plans.{Plan, kind_at, units, register, steps_of, finish_with, finish, last}
 use Rattle.plans.specs.Calls.{with_unit, serves, hire_causes, dismiss_causes}
-use Rattle.prices.proofs.Searches.{none_some, flag_none, lowest_none}
+use Rattle.std.proofs.lemmas.Option.{none-some}
+use Rattle.prices.proofs.Searches.{flag_none, lowest_none}
 use Rattle.plans.proofs.Looks.{unit_low, some_same, cond_some}
 use Rattle.plans.proofs.Placings.{absent, fault_none}
 use Rattle.plans.proofs.Rules.{Rules}
@@ -52,7 +53,7 @@ module _ (G : Graph) (P : Prices) (pl : Plan) (law : Rules G P pl) where
   vacant : (k n i j : ℕ) (w : Sides) → pl.hired k n ≡ None → pl.hired i j ≡ Some w → eqb i k && eqb j n ≡ false
   vacant k n i j w e f = elim (cases_Bool (eqb i k && eqb j n)) [
     | inl z ↦ let a = and_parts (eqb i k) (eqb j n) z in
-        absurd (none_some (sym e ∙ sym (ap (λ x. pl.hired x n) (eqb-true i k a.0)) ∙ sym (ap (pl.hired i) (eqb-true j n a.1)) ∙ f))
+        absurd (none-some _ (sym e ∙ sym (ap (λ x. pl.hired x n) (eqb-true i k a.0)) ∙ sym (ap (pl.hired i) (eqb-true j n a.1)) ∙ f))
     | inr z ↦ z
   ]
 
@@ -71,6 +72,6 @@ module _ (G : Graph) (P : Prices) (pl : Plan) (law : Rules G P pl) where
   pub dismiss_lawful : (k n : ℕ) → AllNone (dismiss_causes G pl k n) → Rules G P (with_unit pl k n None)
   dismiss_lawful k n a =
       let s = lowest_none (λ o. serves G k n o (pl.placed o)) (count G) (fault_none StillServing _ a.1.1.1.0) in
-      unit_lawful G P pl k n None law (λ x e. absurd (none_some e))
+      unit_lawful G P pl k n None law (λ x e. absurd (none-some _ e))
       (λ o p e. let q : serves G k n o (Some p) ≡ false = rw e at (s o (law.placings o p e)) in
       or_parts (eqb (kind_at G o) k && eqb p.unit n) (eqb register k && eqb p.register n) q)

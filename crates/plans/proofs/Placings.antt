@@ -12,17 +12,18 @@ use Rattle.faults.specs.declared.Fault.TheVariants.{NotReady, UnitBusy, Register
 use Rattle.prices.specs.Sums.{any, flag, AllNone}
 use Rattle.plans.specs.Plans.{Plan, kind_at, own_at, value_at, reads, units, register, wide, finish_with, finish, last}
 use Rattle.plans.specs.Calls.{with_placing, disorder, crowding, sharing, clash, place_causes}
-use Rattle.prices.proofs.Searches.{none_some, flag_none, lowest_none, lowest_clear}
+use Rattle.std.proofs.lemmas.Option.{none-some}
+use Rattle.prices.proofs.Searches.{flag_none, lowest_none, lowest_clear}
 use Rattle.plans.proofs.Looks.{unit_low, low_unit, some_same, cond_some}
 use Rattle.plans.proofs.Rules.{Rules, reads_earlier}
 
 pub fault_none : (f : ℕ → Fault) (x : Option ℕ) → option_map f x ≡ None → x ≡ None
 fault_none f None e = refl
-fault_none f (Some a) e = absurd (none_some (sym e))
+fault_none f (Some a) e = absurd (none-some _ (sym e))
 
 pub none_fault : (f : ℕ → Fault) (x : Option ℕ) → x ≡ None → option_map f x ≡ None
 none_fault f None e = refl
-none_fault f (Some a) e = absurd (none_some (sym e))
+none_fault f (Some a) e = absurd (none-some _ (sym e))
 
 pub none_flag : {A : Type 0} (b : Bool) (x : A) → b ≡ false → flag b x ≡ None
 none_flag b x e = cond-false b (Some x) None e
@@ -174,7 +175,7 @@ module _ (G : Graph) (P : Prices) (pl : Plan) (o : ℕ) (p : Placing) where
     here = cond-true (eqb o o) (Some p) (pl.placed o) (eq-eqb o o refl)
 
     apart_from : (e : ℕ) (q : Placing) → pl.placed e ≡ Some q → e ≡ o → ⊥
-    apart_from e q f z = none_some (sym none ∙ sym (ap pl.placed z) ∙ f)
+    apart_from e q f z = none-some _ (sym none ∙ sym (ap pl.placed z) ∙ f)
 
     elsewhere : (e : ℕ) (q : Placing) → pl.placed e ≡ Some q → (with_placing pl o (Some p)).placed e ≡ Some q
     elsewhere e q f = cond-false (eqb e o) (Some p) (pl.placed e) (ne_eqb e o (apart_from e q f)) ∙ f

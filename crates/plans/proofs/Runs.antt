@@ -9,7 +9,8 @@ use Rattle.prices.specs.Sums.{first_of, AllNone}
 use Rattle.plans.specs.Plans.{Plan, Complete, empty}
 use Rattle.plans.specs.Calls.{Call, hire, dismiss, place, lift, with_placing, placing, causes, place_causes, verdict, made, settled, after, run, plan_after}
 use Rattle.plans.specs.Law.{place_so, NotIn, Missing, Taken, Part, IsIn, calls_of, Order}
-use Rattle.prices.proofs.Searches.{none_some, first_none, none_first}
+use Rattle.std.proofs.lemmas.Option.{none-some}
+use Rattle.prices.proofs.Searches.{first_none, none_first}
 use Rattle.plans.proofs.Looks.{cond_some}
 use Rattle.plans.proofs.Parts.{part_lawful}
 use Rattle.plans.proofs.Placings.{clear, lawful_taken, taken_lawful}
@@ -20,7 +21,7 @@ module _ (G : Graph) (P : Prices) where
   lifted : (pl : Plan) (o : ℕ) → Part (with_placing pl o None) pl
   lifted pl o = record {
     units_same = λ k n. refl;
-    placings_in = λ x p e. elim (cond_some (eqb x o) None (pl.placed x) p e) [ inl z ↦ absurd (none_some z.1) | inr z ↦ z.1 ];
+    placings_in = λ x p e. elim (cond_some (eqb x o) None (pl.placed x) p e) [ inl z ↦ absurd (none-some _ z.1) | inr z ↦ z.1 ];
   }
 
   made_lawful : WellFormed G → (pl : Plan) → Rules G P pl → (c : Call) → AllNone (causes G P pl c) → Rules G P (made pl c)
@@ -43,14 +44,14 @@ module _ (G : Graph) (P : Prices) where
 
   empty_lawful : Rules G P empty
   empty_lawful = record {
-    hirings = λ k n w e. absurd (none_some e);
-    placings = λ o p e. absurd (none_some e);
-    unit_covers = λ o p e. absurd (none_some e);
-    register_covers = λ o p e. absurd (none_some e);
-    in_time = λ o p e. absurd (none_some e);
-    in_order = λ o r p q e f rd. absurd (none_some e);
-    apart = λ o r p q e f ne k u. absurd (none_some e);
-    separate = λ o r p q e f ne u. absurd (none_some e);
+    hirings = λ k n w e. absurd (none-some _ e);
+    placings = λ o p e. absurd (none-some _ e);
+    unit_covers = λ o p e. absurd (none-some _ e);
+    register_covers = λ o p e. absurd (none-some _ e);
+    in_time = λ o p e. absurd (none-some _ e);
+    in_order = λ o r p q e f rd. absurd (none-some _ e);
+    apart = λ o r p q e f ne k u. absurd (none-some _ e);
+    separate = λ o r p q e f ne u. absurd (none-some _ e);
   }
 
   pub plans_lawful : WellFormed G → (cs : List Call) → Rules G P (plan_after G P cs)

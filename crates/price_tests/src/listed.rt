@@ -1,23 +1,23 @@
 // Formula and table, and what every maker refuses.
-use faults::Fault;
+use faults::{Fault, Place};
 use prices::{Formula, Grain, PriceList, Table, Wait};
 use std::process::Abort;
 use std::test::Fail;
 use widths::{Adder, Multiplier, Register};
 
+// A maker by its number, as the refusal tells it.
 fn refused<T: Drop>(
     rt: &impl Abort,
     answer: Result<T, Fault>,
     maker: u8,
     row: u8,
 ) -> Result<(), Fail> {
-    match answer {
-        Ok(_) => Err(Fail::new("taken")),
-        Err(fault) => {
-            assert_eq!(rt; fault, Fault::FaultyList(maker, row));
-            Ok(())
-        },
-    }
+    let Err(fault) = answer else {
+        return Err(Fail::new("taken"));
+    };
+    assert_eq!(rt; fault.number(), 7);
+    assert_eq!(rt; fault.place(), Place::Row(maker, row));
+    Ok(())
 }
 
 #[test]

@@ -1,2 +1,3 @@
-pub mod Found
+pub mod Front
 pub mod Searches
+pub mod Terms

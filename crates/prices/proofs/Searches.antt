@@ -1,22 +1,19 @@
 -- Searches from below, as a loop makes them: nothing holds before, and what is found stays found. And lists of what may be there.
 use Rattle.std.proofs.Common.{◌≡◌, ℕ, zero, suc, ◌+◌, ◌<◌, Bool, true, false, List, [], ◌∷◌, Some, None, Option, sym, refl, ◌∙◌, inl, inr, add-one, arith}
+use Rattle.std.specs.Option.{MatchOption}
 use Rattle.std.proofs.lemmas.Bool.{cases_lt}
 use Rattle.prices.specs.Sums.{or_else, flag, lowest, first_of, AllNone}
 
-pub none_some : {A : Type 0} {x : A} → ◌≡◌ {A = Option A} None (Some x) → ⊥
-none_some e = let z : ◌≡◌ {A = ℕ} 0 1 = cc in omega arith
-
 pub flag_none : {A : Type 0} (b : Bool) (x : A) → flag b x ≡ None → b ≡ false
-flag_none true x e = absurd (none_some (sym e))
+flag_none true x e = absurd cc
 flag_none false x e = refl
 
 or_else_none : {A : Type 0} (x y : Option A) → or_else x y ≡ None → (x ≡ None) × (y ≡ None)
 or_else_none None y e = (refl, e)
-or_else_none (Some z) y e = absurd (none_some (sym e))
+or_else_none (Some z) y e = absurd cc
 
 none_or_else : {A : Type 0} (x y : Option A) → x ≡ None → y ≡ None → or_else x y ≡ None
-none_or_else None y e f = f
-none_or_else (Some z) y e f = e
+none_or_else x y e f = rw (e, f)
 
 pub lowest_none : (f : ℕ → Bool) (n : ℕ) → lowest f n ≡ None → (i : ℕ) → i < n → f i ≡ false
 lowest_none f zero e i h = absurd (omega arith)
@@ -31,11 +28,11 @@ lowest_clear f (suc n) h =
 
 some_flag : {A : Type 0} (b : Bool) (x y : A) → flag b x ≡ Some y → (b ≡ true) × (x ≡ y)
 some_flag true x y e = (refl, cc)
-some_flag false x y e = absurd (none_some e)
+some_flag false x y e = absurd cc
 
 -- what is found holds
 pub lowest_some : (f : ℕ → Bool) (n i : ℕ) → lowest f n ≡ Some i → (i < n) × (f i ≡ true)
-lowest_some f zero i e = absurd (none_some e)
+lowest_some f zero i e = absurd cc
 lowest_some f (suc n) i e = go (lowest f n) (λ j p. lowest_some f n j p) refl e
   where
     go : (x : Option ℕ) → ((j : ℕ) → lowest f n ≡ Some j → (j < n) × (f j ≡ true)) → lowest f n ≡ x → or_else x (flag (f n) n) ≡ Some i → (i < suc n) × (f i ≡ true)
@@ -50,6 +47,12 @@ pub lowest_found : (f : ℕ → Bool) (i n : ℕ) → lowest f i ≡ None → f 
 lowest_found f i zero e h l = absurd (omega arith)
 lowest_found f i (suc n) e h l =
     elim (cases_lt i n) [ inl k ↦ rw (lowest_found f i n e h k) | inr k ↦ let q : n ≡ i = omega arith in rw (q, e, h) ]
+
+-- a search's answer, by what it tells of the numbers that it passed
+pub lowest_is : (f : ℕ → Bool) (n : ℕ) (r : Option ℕ)
+    → MatchOption r ((i : ℕ) → i < n → f i ≡ false) (λ i. (i < n) × (f i ≡ true) × ((j : ℕ) → j < i → f j ≡ false)) → r ≡ lowest f n
+lowest_is f n None h = sym (lowest_clear f n h)
+lowest_is f n (Some i) h = sym (lowest_found f i n (lowest_clear f i h.2) h.1 h.0)
 
 pub first_none : {A : Type 0} (xs : List (Option A)) → first_of xs ≡ None → AllNone xs
 first_none [] e = tt

@@ -1,7 +1,8 @@
--- What the makers of price lists refuse: the maker's number, and the first row at fault.
+-- What the makers of price lists refuse: the maker, and the first row at fault.
 use Rattle.std.specs.Prelude.{◌≡◌, ℕ, ◌+◌, ◌-◌, ◌<◌, ◌≤◌, Bool, false, cond, ◌&&◌, ◌||◌, List, length, Some, None, Option, ◌==◌, nat_le, nat_lt, slice_index}
 use Rattle.faults.specs.declared.Fault.{Fault}
 use Rattle.faults.specs.declared.Fault.TheVariants.{FaultyList}
+use Rattle.faults.specs.declared.Maker.TheVariants.{Formula, Table, Grain, Wait}
 use Rattle.prices.specs.Sums.{or_else, lowest}
 use Rattle.prices.specs.Lists.{is_grain}
 
@@ -9,9 +10,9 @@ use Rattle.prices.specs.Lists.{is_grain}
 abbrev pub is_rate : ℕ → Bool
 is_rate n = nat_le 1 n && nat_le n 64
 
--- maker 0: the adder rate is row 0, the register rate row 1
+-- the formula's adder rate is row 0, its register rate row 1
 abbrev pub formula_fault : ℕ → ℕ → Option Fault
-formula_fault a r = cond (is_rate a) (cond (is_rate r) None (Some (FaultyList 0 1))) (Some (FaultyList 0 0))
+formula_fault a r = cond (is_rate a) (cond (is_rate r) None (Some (FaultyList Formula 1))) (Some (FaultyList Formula 0))
 
 -- a latency that is 0, or below the one before it
 abbrev pub falls : List ℕ → ℕ → Bool
@@ -29,20 +30,20 @@ Rising steps = ((i : ℕ) → slice_index steps i ≤ 255) × ((i : ℕ) → i <
 abbrev pub first_fall : List ℕ → Option ℕ
 first_fall steps = lowest (falls steps) (length steps)
 
--- maker 1, with the rows counted from a first one
+-- a table's row, counted from a first one
 abbrev pub row_fault : ℕ → Option ℕ → Option Fault
 row_fault first None = None
-row_fault first (Some i) = Some (FaultyList 1 (first + i))
+row_fault first (Some i) = Some (FaultyList Table (first + i))
 
--- maker 1: the adders' latencies are rows 0 to 39, the multipliers' rows 40 to 79
+-- a table's latencies of adders are rows 0 to 39, those of multipliers rows 40 to 79
 abbrev pub table_fault : List ℕ → List ℕ → Option Fault
 table_fault adder_steps multiplier_steps =
     or_else (row_fault 0 (first_fall adder_steps)) (row_fault 40 (first_fall multiplier_steps))
 
--- maker 2: the grain is row 0
+-- the size of a grain is row 0
 abbrev pub grain_fault : ℕ → Option Fault
-grain_fault g = cond (is_grain g) None (Some (FaultyList 2 0))
+grain_fault g = cond (is_grain g) None (Some (FaultyList Grain 0))
 
--- maker 3: the wait is row 0
+-- the steps of a wait are row 0
 abbrev pub wait_fault : ℕ → Option Fault
-wait_fault s = cond (nat_le s 16) None (Some (FaultyList 3 0))
+wait_fault s = cond (nat_le s 16) None (Some (FaultyList Wait 0))

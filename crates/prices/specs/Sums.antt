@@ -1,4 +1,5 @@
--- Sums, maxima and searches over the first numbers, and lists of what may be there.
+-- Sums, maxima and searches over the first numbers, and lists of what may be there. They go over numbers and not, as the
+-- library's, over lists: a sum over cells or steps needs no list of them, and one number more adds its term at the end, by computation.
 use Rattle.std.specs.Prelude.{◌≡◌, ℕ, zero, suc, ◌+◌, max, Bool, false, cond, ◌||◌, List, [], ◌∷◌, Some, None, Option}
 
 -- the sum of f at 0 up to but not including n

@@ -3,8 +3,6 @@
 // `PriceList` is what every list answers. `Formula` and `Table` are lists of their own; `Grain` and `Wait` lie over any
 // list and are lists again, so they stack in any order and number. Outside the kinds, their widths and their cells every
 // list answers 0. `adjustments_sound` promises what grain and wait keep of the list that they lie over.
-//
-// Each list computes its answers in private methods, whose proofs open the definitions; its `impl` hands them on.
 #![tactic(auto)]
 
 ghost use Rattle.std.specs.Prelude.{◌≡◌};

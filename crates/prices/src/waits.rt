@@ -1,15 +1,13 @@
 // The wait: every latency of the list below some steps longer, the same charges.
-ghost use Rattle.std.specs.Prelude.{◌≡◌, ◌≤◌, Some, None, MatchResult};
-ghost use Rattle.prices.specs.Prices.{cell_charge, charge, latency};
+ghost use Rattle.std.specs.Prelude.{◌≡◌, ◌≤◌, IfOk};
+ghost use Rattle.std.specs.Result.{result_err};
 ghost use Rattle.prices.specs.Lists.{waiting};
 ghost use Rattle.prices.specs.Refusals.{wait_fault};
 ghost use Rattle.prices.specs.WaitLaw.{wait_sound};
 
 use super::PriceList;
-use faults::Fault;
+use faults::{Fault, Maker};
 use widths::Kind;
-
-const MAKER: u8 = 3;
 
 const MOST_STEPS: u8 = 16;
 
@@ -23,38 +21,14 @@ pub struct Wait<L> {
 impl<L: Drop> Wait<L> {
     // The list with every latency this many steps longer, at most 16.
     pub fn new(list: L, steps: u8) -> Result<Wait<L>, Fault>
-        ensures { MatchResult result (λ x. (wait_fault steps ≡ None) × (x.list ≡ list) × (x.steps ≡ steps)) (λ e. wait_fault steps ≡ Some e) }
+        ensures refusal { result_err result ≡ wait_fault steps }
+        ensures below { IfOk result (λ wait. wait.list ≡ list) }
+        ensures steps { IfOk result (λ wait. wait.steps ≡ steps) }
     {
         if steps > MOST_STEPS {
-            return Err(Fault::FaultyList(MAKER, 0));
+            return Err(Fault::FaultyList(Maker::Wait, 0));
         }
         Ok(Wait { list, steps })
-    }
-}
-
-impl<L: PriceList> Wait<L> {
-    fn cell_price<K: Kind>(&self, c: K::Width) -> u64
-        ensures { result ≡ cell_charge (waiting self.now.steps (L.PriceList.prices self.now.list)) K.Kind.code (K.Kind.shape c) }
-    {
-        self.list.cell_charge::<K>(c)
-    }
-
-    fn width_price<K: Kind>(&self, w: K::Width) -> u64
-        ensures { result ≡ charge (waiting self.now.steps (L.PriceList.prices self.now.list)) K.Kind.code (K.Kind.shape w) }
-    {
-        self.list.charge::<K>(w)
-    }
-
-    // A list answers 0 exactly where there is no latency, and so nothing to lengthen.
-    fn width_steps<K: Kind>(&self, w: K::Width) -> u8
-        ensures { result ≡ latency (waiting self.now.steps (L.PriceList.prices self.now.list)) K.Kind.code (K.Kind.shape w) }
-    {
-        let below = self.list.latency::<K>(w);
-        if below == 0 {
-            0
-        } else {
-            below.saturating_add(self.steps)
-        }
     }
 }
 
@@ -63,15 +37,22 @@ impl<L: PriceList> PriceList for Wait<L> {
 
     ghost sound = { λ x. wait_sound x.steps (L.PriceList.prices x.list) (L.PriceList.sound x.list) };
 
+    #[tactic(auto, unfolding(crate::specs::Prices::cell_charge))]
     fn cell_charge<K: Kind>(&self, c: K::Width) -> u64 {
-        self.cell_price::<K>(c)
+        self.list.cell_charge::<K>(c)
     }
 
+    #[tactic(auto, unfolding(crate::specs::Prices::charge))]
     fn charge<K: Kind>(&self, w: K::Width) -> u64 {
-        self.width_price::<K>(w)
+        self.list.charge::<K>(w)
     }
 
+    // A list answers 0 exactly where there is no latency, and so nothing to lengthen.
+    #[tactic(auto, using(crate::specs::WaitLaw::wait_some))]
     fn latency<K: Kind>(&self, w: K::Width) -> u8 {
-        self.width_steps::<K>(w)
+        match self.list.latency::<K>(w) {
+            0 => 0,
+            below => below.saturating_add(self.steps),
+        }
     }
 }

@@ -1,37 +1,35 @@
 // Reading a sheet from its bytes.
-ghost use Rattle.std.specs.Prelude.{◌≡◌, ◌<◌, length};
+ghost use Rattle.std.specs.Prelude.{◌≡◌, length};
 ghost use Rattle.graphs.specs.Graphs.{WellFormed, is_named};
 ghost use Rattle.graphs.specs.Law.{ReadingLaw};
 ghost use Rattle.graphs.specs.Reading.{in_order, has_room, names_earlier, cause, nothing_read, read, whole_graph};
-ghost use Rattle.sheet.specs.Drafts.{sofar, answer, Kept, Takes, Goes, ReadsAs};
+ghost use Rattle.sheet.specs.Drafts.{sofar, answer, Kept, Takes, ReadsAs};
 ghost use Rattle.sheet.specs.Jobs.{graph_of};
 
 use super::Job;
-use super::commands::{decoded, in_range, operand_count, operand_of, source_of};
+use super::commands::in_range;
 use faults::Fault;
-use graphs::{Command, Operation, Source};
+use graphs::{Command, Commands, Operand, Operation, Source};
 use std::alloc::Global;
 
-// What was read so far.
+// What was read so far, before END.
 #[derive(Drop)]
 struct Draft {
     limit: Option<u8>,
     inputs: Vec<u8>,
     operations: Vec<Operation>,
     outputs: Vec<u8>,
-    ended: bool,
 }
 
 impl Draft {
-    fn new(heap: Global) -> Draft
+    fn new(alloc: Global) -> Draft
         ensures { sofar result ≡ nothing_read }
     {
         Draft {
             limit: None,
-            inputs: Vec::new(heap),
-            operations: Vec::new(heap),
-            outputs: Vec::new(heap),
-            ended: false,
+            inputs: Vec::new(alloc),
+            operations: Vec::new(alloc),
+            outputs: Vec::new(alloc),
         }
     }
 
@@ -39,15 +37,11 @@ impl Draft {
     fn in_order(&self, command: Command) -> bool
         ensures { result ≡ in_order (sofar self.now) command }
     {
-        if self.ended {
-            return false;
-        }
         let begun = self.limit.is_some();
         match command {
             Command::Steps(_) => !begun,
             Command::Input(_) => begun && self.operations.is_empty() && self.outputs.is_empty(),
-            Command::Add(_, _, _) | Command::Multiply(_, _, _, _) => begun
-                && self.outputs.is_empty(),
+            Command::Add(..) | Command::Multiply(..) => begun && self.outputs.is_empty(),
             Command::Output(_) => begun && !self.operations.is_empty(),
             Command::End => begun && !self.operations.is_empty() && !self.outputs.is_empty(),
         }
@@ -59,7 +53,7 @@ impl Draft {
         match command {
             Command::Steps(_) | Command::End => true,
             Command::Input(_) => self.inputs.len() < 16,
-            Command::Add(_, _, _) | Command::Multiply(_, _, _, _) => self.operations.len() < 64,
+            Command::Add(..) | Command::Multiply(..) => self.operations.len() < 64,
             Command::Output(_) => self.outputs.len() < 16,
         }
     }
@@ -68,8 +62,8 @@ impl Draft {
         ensures { result ≡ is_named (length (sofar self.now).inputs) (length (sofar self.now).operations) source }
     {
         match source {
-            Source::Input(i) => (i as usize) < self.inputs.len(),
-            Source::Earlier(o) => (o as usize) < self.operations.len(),
+            Source::Input(i) => usize::from(i) < self.inputs.len(),
+            Source::Earlier(o) => usize::from(o) < self.operations.len(),
         }
     }
 
@@ -79,7 +73,7 @@ impl Draft {
         match command {
             Command::Steps(_) | Command::Input(_) | Command::End => true,
             Command::Add(_, a, b) | Command::Multiply(_, _, a, b) => {
-                self.is_named(source_of(a.source)) && self.is_named(source_of(b.source))
+                self.is_named(Operand::from(a).source) && self.is_named(Operand::from(b).source)
             }
             Command::Output(s) => self.is_named(Source::Earlier(s.saturating_sub(64))),
         }
@@ -109,15 +103,13 @@ impl Draft {
     {
         match command {
             Command::Steps(limit) => self.limit = Some(limit),
-            Command::Input(w) => self.inputs.push(w)?,
-            Command::Add(p, a, b) => self
-                .operations
-                .push(Operation::Add(p, operand_of(a), operand_of(b)))?,
+            Command::Input(width) => self.inputs.push(width)?,
+            Command::Add(p, a, b) => self.operations.push(Operation::Add(p, a.into(), b.into()))?,
             Command::Multiply(p, q, a, b) => self
                 .operations
-                .push(Operation::Multiply(p, q, operand_of(a), operand_of(b)))?,
+                .push(Operation::Multiply(p, q, a.into(), b.into()))?,
             Command::Output(s) => self.outputs.push(s.saturating_sub(64))?,
-            Command::End => self.ended = true,
+            Command::End => {}
         }
         Ok(())
     }
@@ -138,7 +130,6 @@ impl Draft {
             inputs,
             operations,
             outputs,
-            ended: _,
         } = self;
         Job {
             limit: limit.unwrap_or(0),
@@ -149,40 +140,26 @@ impl Draft {
     }
 }
 
-// Reads the command at a position, and answers the position behind it.
-fn step(draft: &mut Draft, bytes: &[u8], at: usize) -> Result<usize, Fault>
-    requires { at < length bytes.now }
-    ensures { Goes bytes.now (sofar draft.old) at (sofar draft.new) result }
-{
-    if draft.ended {
-        return Err(Fault::OutOfOrder(at));
-    }
-    let byte = bytes[at];
-    let Some(count) = operand_count(byte) else {
-        return Err(Fault::UnknownCommand(at));
-    };
-    let rest = &bytes[at + 1..];
-    if rest.len() < count {
-        return Err(Fault::CutShort(at));
-    }
-    draft.take(decoded(byte, rest, count), at)?;
-    Ok(at + 1 + count)
-}
-
 impl Job {
     // Reads a sheet, or tells the first faulty command.
-    pub fn read(heap: Global, bytes: &[u8]) -> Result<Job, Fault>
+    #[tactic(auto, using(graphs::proofs::Laws::reading_law))]
+    pub fn read(alloc: Global, bytes: &[u8]) -> Result<Job, Fault>
         ensures answer { ReadsAs (read bytes.now) result }
         ensures law { ReadingLaw bytes.now }
     {
-        let mut draft = Draft::new(heap);
-        let mut at = 0;
-        while at < bytes.len() {
-            at = step(&mut draft, bytes, at)?;
+        let mut draft = Draft::new(alloc);
+        let mut commands = Commands::new(bytes, 0);
+        while let Some((at, command)) = commands.next() {
+            let command = command?;
+            draft.take(command, at)?;
+            if let Command::End = command {
+                // Nothing may stand behind END.
+                return match commands.next() {
+                    None => Ok(draft.finish()),
+                    Some((behind, _)) => Err(Fault::OutOfOrder(behind)),
+                };
+            }
         }
-        if !draft.ended {
-            return Err(Fault::CutShort(at));
-        }
-        Ok(draft.finish())
+        Err(Fault::CutShort(bytes.len()))
     }
 }

@@ -11,22 +11,18 @@ use damage::DAMAGES;
 use sheet::Job;
 use show::{Numbers, Shown};
 use std::fs;
+use std::rt::Files;
 
 fn main(rt: HostRuntime) -> anyhow::Result<()> {
-    run(&rt)
-}
-
-fn run(rt: &HostRuntime) -> anyhow::Result<()> {
-    walk(rt, "biquad.sheet", "biquad.samples")?;
-    walk(rt, "transform.sheet", "transform.samples")?;
-    show_damages(rt, "biquad.sheet")
+    walk(&rt, "biquad.sheet", "biquad.samples")?;
+    walk(&rt, "transform.sheet", "transform.samples")?;
+    show_damages(&rt, "biquad.sheet")
 }
 
 // A sheet and the frames of samples that stand in a file, one to a line.
-fn walk(rt: &HostRuntime, sheet: &str, samples: &str) -> anyhow::Result<()> {
+fn walk(rt: &(impl Files + Print + AllocGlobal), sheet: &str, samples: &str) -> anyhow::Result<()> {
     let bytes = fs::read(rt, sheet)?;
-    let length = bytes.len();
-    println!(rt; "{sheet}: {length} bytes")?;
+    println!(rt; "{sheet}: {} bytes", bytes.len())?;
     let job = Job::read(rt.alloc(), &bytes)?;
     show_job(rt, &job)?;
     show_costs(rt, &job)?;
@@ -37,7 +33,7 @@ fn walk(rt: &HostRuntime, sheet: &str, samples: &str) -> anyhow::Result<()> {
     Ok(())
 }
 
-fn show_job(rt: &HostRuntime, job: &Job) -> anyhow::Result<()> {
+fn show_job(rt: &impl Print, job: &Job) -> anyhow::Result<()> {
     println!(rt; "  STEPS {}", job.limit())?;
     for (i, width) in job.inputs().iter().enumerate() {
         println!(rt; "  INPUT {i}: {width} bits")?;
@@ -52,36 +48,38 @@ fn show_job(rt: &HostRuntime, job: &Job) -> anyhow::Result<()> {
     Ok(())
 }
 
-fn show_frame(rt: &HostRuntime, job: &Job, number: usize, line: &str) -> anyhow::Result<()> {
-    let mut samples = Vec::new(rt.alloc());
-    for word in line.split_whitespace() {
-        samples.push(word.parse::<i64>()?)?;
-    }
+fn show_frame(
+    rt: &(impl Print + AllocGlobal),
+    job: &Job,
+    number: usize,
+    line: &str,
+) -> anyhow::Result<()> {
+    let samples: Vec<i64> = line
+        .split_whitespace()
+        .map(|word| word.parse::<i64>().map_err(anyhow::Error::from))
+        .try_collect(rt.alloc())?;
     println!(rt; "  frame {number}: samples{}", Numbers(&samples))?;
     show_values(rt, job, &samples)?;
     show_outputs(rt, job, &samples)
 }
 
-fn show_values(rt: &HostRuntime, job: &Job, samples: &[i64]) -> anyhow::Result<()> {
-    let mut values = [0i64; 64];
-    let count = job.operation_values(samples, &mut values)?;
-    for (o, value) in values.iter().take(count).enumerate() {
+fn show_values(rt: &(impl Print + AllocGlobal), job: &Job, samples: &[i64]) -> anyhow::Result<()> {
+    let mut values = vec![in rt.alloc(); 0i64; job.operations().len()]?;
+    job.operation_values(samples, &mut values)?;
+    for (o, value) in values.iter().enumerate() {
         println!(rt; "    operation {o} = {value}")?;
     }
     Ok(())
 }
 
-fn show_outputs(rt: &HostRuntime, job: &Job, samples: &[i64]) -> anyhow::Result<()> {
-    let mut outputs = [0i64; 16];
-    let count = job.output_values(samples, &mut outputs)?;
-    println!(rt;
-        "    outputs{}",
-        Numbers(outputs.get(0..count).unwrap_or(&[]))
-    )?;
+fn show_outputs(rt: &(impl Print + AllocGlobal), job: &Job, samples: &[i64]) -> anyhow::Result<()> {
+    let mut outputs = vec![in rt.alloc(); 0i64; job.outputs().len()]?;
+    job.output_values(samples, &mut outputs)?;
+    println!(rt; "    outputs{}", Numbers(&outputs))?;
     Ok(())
 }
 
-fn show_damages(rt: &HostRuntime, sheet: &str) -> anyhow::Result<()> {
+fn show_damages(rt: &(impl Files + Print + AllocGlobal), sheet: &str) -> anyhow::Result<()> {
     let bytes = fs::read(rt, sheet)?;
     println!(rt; "damaged copies of {sheet}")?;
     for damage in DAMAGES {

@@ -1,6 +1,30 @@
 -- Widths and cells of the kinds of units: 0 adder, 1 multiplier, 2 register.
-use Rattle.std.specs.Prelude.{ℕ, ◌*◌, Bool, cond, ◌&&◌, ◌==◌, nat_le}
+use Rattle.std.specs.Prelude.{◌≡◌, ℕ, ◌*◌, ◌<◌, Bool, true, cond, ◌&&◌, List, ◌++◌, Ok, Err, codes, decimal, Result, ◌==◌, nat_le}
 use Rattle.widths.specs.declared.Sides.{Sides}
+use Rattle.widths.specs.declared.UnitKind.{UnitKind}
+use Rattle.widths.specs.declared.UnitKind.TheVariants.{Adder, Multiplier, Register}
+use Rattle.widths.specs.declared.UnknownKind.{UnknownKind}
+
+-- the number of a kind
+abbrev pub code_of : UnitKind → ℕ
+code_of Adder = 0
+code_of Multiplier = 1
+code_of Register = 2
+
+-- the kind as it is written
+abbrev pub name_of : UnitKind → List ℕ
+name_of Adder = codes "adder"
+name_of Multiplier = codes "multiplier"
+name_of Register = codes "register"
+
+-- a number of no kind, as it is told
+abbrev pub unknown_text : UnknownKind → List ℕ
+unknown_text u = codes "no kind of unit has number " ++ decimal u.0
+
+-- a number is that of a kind, or of none
+abbrev pub Decodes : ℕ → Result UnitKind UnknownKind → Type 0
+Decodes n (Ok k) = n ≡ code_of k
+Decodes n (Err u) = (2 < n) × (u.0 ≡ n)
 
 -- a width or a cell with these sides; the second is 0 where the kind has one side
 abbrev pub sides_of : ℕ → ℕ → Sides
@@ -29,6 +53,10 @@ first_side k p = nat_le 1 p && nat_le p (widest k)
 -- q is the second side of a width of the kind with the first side p
 abbrev pub second_side : ℕ → ℕ → ℕ → Bool
 second_side k p q = cond (k == 1) ((nat_le 1 q && nat_le q 24) && nat_le q p) (q == 0)
+
+-- so many sides does a width or a cell of the kind have
+abbrev pub has_sides : ℕ → Sides → Bool
+has_sides k s = cond (k == 1) true (s.q == 0)
 
 -- w is a width of the kind k
 abbrev pub valid : ℕ → Sides → Bool

@@ -8,10 +8,6 @@ use Rattle.std.proofs.lemmas.Nat.{mul-le}
 use Rattle.words.specs.Cut.{cut_to}
 use Rattle.words.proofs.Cuts.{cut_below, cut_same}
 
--- a value cut to w bits
-pub cut_range : (z : ℤ) (d w : ℕ) → 1 ≤ w → mag (cut_to z d w) < 2 ^ (w - 1)
-cut_range z d w some = cut_below z d w
-
 -- a value cut to at most n bits and a sign
 pub cut_size : (z : ℤ) (d w n : ℕ) → 1 ≤ w → w ≤ suc n → mag (cut_to z d w) < 2 ^ n
 cut_size z d w n some most =
@@ -55,7 +51,3 @@ through op x y fx fy f =
     ap (λ u. to_z w64 (of_z w64 (op u (to_z w64 (of_z w64 y))))) (to_z-of_z w64 x fx)
     ∙ ap (λ u. to_z w64 (of_z w64 (op x u))) (to_z-of_z w64 y fy)
     ∙ to_z-of_z w64 (op x y) f
-
--- what a call of `cut` gave: the cut of the word v, and not of its bits
-pub cut_given : (r v : ℤ) (d w : ℕ) → SFits w64 v → r ≡ cut_to (to_z w64 (of_z w64 v)) d w → r ≡ cut_to v d w
-cut_given r v d w f e = e ∙ ap (λ z. cut_to z d w) (to_z-of_z w64 v f)

@@ -6,8 +6,8 @@ use lib.Signed.{shr_z, mag_shr}
 use lib.Arith.{digits_div, mod-mul}
 use mir.Val.{sel}
 use mir.Facts.{sfits_to_z}
-use Rattle.std.proofs.lemmas.Int.{ints, to_z-of_z}
-use Rattle.std.proofs.lemmas.Bool.{cases_lt, lt-ltb, le-ltb}
+use Rattle.std.proofs.lemmas.Int.{ints, to_z_pos, to_z-of_z}
+use Rattle.std.proofs.lemmas.Bool.{cases_lt, le-ltb}
 use Rattle.std.proofs.lemmas.Nat.{mod_below}
 use Rattle.words.specs.Cut.{floor_div, floor_mod, signed_of}
 use Rattle.words.proofs.Rests.{rest_same}
@@ -49,10 +49,6 @@ module _ (w u : ℕ) (whole : w + u ≡ 64) (some : 1 ≤ w) where
       let p : pos (2 ^ 64 - suc a) +ℤ pos (0 * 2 ^ w) ≡ negsuc a +ℤ pos (2 ^ u * 2 ^ w) = omega (arith, ints, word) in
       rest_same (pos (2 ^ 64 - suc a)) (negsuc a) (2 ^ w) 0 (2 ^ u) (pow_pos w) p
 
-  -- a word with the highest bit clear
-  not_negative : (n : ℕ) → n < 2 ^ 63 → to_z w64 n ≡ pos n
-  not_negative n h = ap (λ b. sel b (pos n) (negsuc (2 ^ 64 - suc n))) (lt-ltb n (2 ^ 63) h)
-
   -- a word with the highest bit set
   negative : (n : ℕ) → 2 ^ 63 ≤ n → to_z w64 n ≡ negsuc (2 ^ 64 - suc n)
   negative n h = ap (λ b. sel b (pos n) (negsuc (2 ^ 64 - suc n))) (le-ltb n (2 ^ 63) h)
@@ -63,7 +59,7 @@ module _ (w u : ℕ) (whole : w + u ≡ 64) (some : 1 ≤ w) where
       elim (cases_lt m (2 ^ (w - 1))) [
         | inl lt ↦
             let b : m * 2 ^ u < 2 ^ 63 = subst (λ i. m * 2 ^ u < i) (sym half) (mul-lt-mul_of_pos_right lt (pow_pos u)) in
-            ap (λ z. shr_z z (2 ^ u)) (not_negative (m * 2 ^ u) b) ∙ ap pos (mul-div_cancel m (pow_pos u)) ∙ sym (low_half w m lt)
+            ap (λ z. shr_z z (2 ^ u)) (to_z_pos w64 (m * 2 ^ u) b) ∙ ap pos (mul-div_cancel m (pow_pos u)) ∙ sym (low_half w m lt)
         | inr le ↦
             let b : 2 ^ 63 ≤ m * 2 ^ u = subst (λ i. i ≤ m * 2 ^ u) (sym half) (mul-le-mul_right (2 ^ u) le) in
             ap (λ z. shr_z z (2 ^ u)) (negative (m * 2 ^ u) b)
@@ -106,12 +102,10 @@ short_shift : (z : ℤ) (d : ℕ) → shr_z z (2 ^ d) ≡ floor_div z (2 ^ d)
 short_shift (pos a) d = refl
 short_shift (negsuc a) d = refl
 
--- what the code computes of a shift by d: by 63 where d is more
-pub shift_code : (z : ℤ) (d e : ℕ) → SFits w64 z → e ≡ min d 63 → to_z w64 (of_z w64 (shr_z (to_z w64 (of_z w64 z)) (2 ^ e))) ≡ floor_div z (2 ^ d)
-shift_code z d e f is =
-    ap (λ i. to_z w64 (of_z w64 (shr_z i (2 ^ e)))) (to_z-of_z w64 z f)
-    ∙ to_z-of_z w64 (shr_z z (2 ^ e)) (shift_fits z (2 ^ e) f)
-    ∙ elim (cases_lt d 63) [
-      | inl l ↦ let s : e ≡ d = omega arith in ap (λ i. shr_z z (2 ^ i)) s ∙ short_shift z d
-      | inr l ↦ let s : e ≡ 63 = omega arith in ap (λ i. shr_z z (2 ^ i)) s ∙ long_shift z d f l
+-- a shift by d, and by 63 where d is more
+pub shift_code : (z : ℤ) (d : ℕ) → SFits w64 z → shr_z z (2 ^ min d 63) ≡ floor_div z (2 ^ d)
+shift_code z d f =
+    elim (cases_lt d 63) [
+      | inl l ↦ let s : min d 63 ≡ d = omega arith in ap (λ i. shr_z z (2 ^ i)) s ∙ short_shift z d
+      | inr l ↦ let s : min d 63 ≡ 63 = omega arith in ap (λ i. shr_z z (2 ^ i)) s ∙ long_shift z d f l
     ]

@@ -7,16 +7,17 @@ ghost use Rattle.std.specs.Prelude.{◌≡◌, ℕ, ◌^◌, ◌≤◌, ℤ};
 ghost use Rattle.words.specs.Cut.{cut_to, floor_div, floor_mod, signed_of};
 ghost use Rattle.words.specs.Laws.{CutLaws};
 
-// v divided by 2^drop, rounded toward minus infinity; a shift by 63 leaves the sign alone, as any longer one would.
+// v divided by 2^drop, rounded toward minus infinity; a shift by 63 or more leaves the sign alone.
 fn shifted(v: i64, drop: u8) -> i64
     ensures { result ≡ floor_div v (2 ^ drop) }
 {
-    v >> drop.min(63)
+    v.unbounded_shr(drop.into())
 }
 
 // The low `width` bits of z as two's complement: the others are shifted out at the top.
 fn low_bits(z: i64, width: u8) -> i64
-    requires { (1 ≤ width) × (width ≤ 64) }
+    requires least { 1 ≤ width }
+    requires most { width ≤ 64 }
     ensures { result ≡ signed_of width (floor_mod z (2 ^ width)) }
 {
     let free = 64 - width;

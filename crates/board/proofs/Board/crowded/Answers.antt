@@ -1,0 +1,7 @@
+use Rattle.std.proofs.Common.{refl, rules}
+use Rattle.board.specs.Boards.{crowding_on}
+use Rattle.board.proofs.Searches.{lowest_from_find}
+use Rattle.board.proofs.Board.crowded.Goals as goal
+
+pub returns : goal.returns
+returns g c = lowest_from_find (crowding_on g.L.PriceList.prices c.args.self.now c.args.o c.args.p) _ _ _ _ _ refl c.count.ensures c.find.ensures.ran (λ x b q k. (search rules, search rules))

@@ -1,7 +1,0 @@
--- A wait leaves charges as they are.
-use Rattle.std.proofs.Common.{◌∙◌}
-use Rattle.prices.specs.WaitLaw.{wait_cell}
-use Rattle.prices.proofs.waits.Wait.cell_price.Goals as goal
-
-pub returns : goal.returns
-returns g c = c.cell_charge.ensures ∙ wait_cell c.args.self.now.steps (g.L.PriceList.prices c.args.self.now.list) g.K.Kind.code (g.K.Kind.shape c.args.c)
