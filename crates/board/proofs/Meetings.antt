@@ -91,16 +91,13 @@ output_all G given same k x before now h l e =
     let s : k ≡ length G.outputs = omega (arith, ap length same) in
     e ∙ ap (λ n. max before (cond (any (λ i. eqb (get_or G.outputs i 0) x) n) G.limit 0)) s
 
+number_at : (n k : ℕ) → k < n → get_or (range_with_len 0 (n - 0)) k 0 ≡ k
+number_at n k l = omega (arith, get_or-range_with_len 0 (n - 0) k 0 (omega arith))
+
 -- every operation is placed, where `all` over their numbers says so
 pub whole : (G : Graph) (pl : Plan) (n : ℕ) (b : Bool) → n ≡ count G → MatchBool b (AllWithin (λ o. is_some (pl.placed o) ≡ true) (range_with_len 0 (n - 0)) 0 (length (range_with_len 0 (n - 0)))) ((k : ℕ) × (k < length (range_with_len 0 (n - 0))) × HoldsAt (λ o. is_some (pl.placed o) ≡ false) (range_with_len 0 (n - 0)) k) → IsTrue b ↔ Complete G pl
-whole G pl n b e h = by b h
-  where
-    at : (k : ℕ) → k < n → get_or (range_with_len 0 (n - 0)) k 0 ≡ k
-    at k l = omega (arith, get_or-range_with_len 0 (n - 0) k 0 (omega arith))
-
-    by : (b : Bool) → MatchBool b (AllWithin (λ o. is_some (pl.placed o) ≡ true) (range_with_len 0 (n - 0)) 0 (length (range_with_len 0 (n - 0)))) ((k : ℕ) × (k < length (range_with_len 0 (n - 0))) × HoldsAt (λ o. is_some (pl.placed o) ≡ false) (range_with_len 0 (n - 0)) k) → IsTrue b ↔ Complete G pl
-    by true all = ((λ t o l. there (pl.placed o) (subst (λ k. is_some (pl.placed k) ≡ true) (at o (omega arith)) (all o 0 (omega arith) (omega (arith, length-range_with_len 0 (n - 0)))))), λ c. refl)
-    by false some =
-        let k : some.0 < n = omega (arith, some.1, length-range_with_len 0 (n - 0)) in
-        let none = subst (λ i. is_some (pl.placed i) ≡ false) (at some.0 k) (some.2 0) in
-        ((λ t. absurd (false≢true t)), λ c. absurd (none-some _ (sym (absent (pl.placed some.0) none) ∙ (c some.0 (omega arith)).1)))
+whole G pl n true e all = ((λ t o l. there (pl.placed o) (subst (λ k. is_some (pl.placed k) ≡ true) (number_at n o (omega arith)) (all o 0 (omega arith) (omega (arith, length-range_with_len 0 (n - 0)))))), λ c. refl)
+whole G pl n false e some =
+    let k : some.0 < n = omega (arith, some.1, length-range_with_len 0 (n - 0)) in
+    let none = subst (λ i. is_some (pl.placed i) ≡ false) (number_at n some.0 k) (some.2 0) in
+    ((λ t. absurd (false≢true t)), λ c. absurd (none-some _ (sym (absent (pl.placed some.0) none) ∙ (c some.0 (omega arith)).1)))

@@ -19,12 +19,12 @@ pub lowest_from_find : {F : Type 0} {g : Mut F (Bor ℕ × Unit {0}) Bool} (f : 
     → s.start ≡ 0 → s.end ≡ n
     → (xs : List ℕ) × (j : F) × YieldsThen nat_range_steps s xs r u × FoldsTo (λ p x q. CalledAt g p x false q) h xs j × MatchOption r ⊤ (λ x. (k : F) × CalledAt g j x true k)
     → ((x : ℕ) (b : Bool) (q : F) → CalledAt g h x b q → (q ≡ h) × (b ≡ f x)) → r ≡ lowest f n
-lowest_from_find f n s u h r from to ran computes =
-    by r (first_from_Range s u h r (λ i. f i ≡ true) (λ i. f i ≡ false) ran (λ x q k. sym (computes x true q k).1) (λ x q k. let c = computes x false q k in (c.0, sym c.1)))
-  where
-    by : (r : Option ℕ) → MatchOption r ((k : ℕ) → s.start ≤ k → k < s.end → f k ≡ false) (λ i. (s.start ≤ i) × (i < s.end) × (f i ≡ true) × ((k : ℕ) → s.start ≤ k → k < i → f k ≡ false)) → r ≡ lowest f n
-    by None e = lowest_is f n None (λ k l. e k (omega arith) (omega arith))
-    by (Some i) e = lowest_is f n (Some i) (omega (arith, e.1), e.2, λ k l. e.3 k (omega arith) l)
+lowest_from_find f n s u h None from to ran computes =
+    let none = first_from_Range s u h None (λ i. f i ≡ true) (λ i. f i ≡ false) ran (λ x q k. sym (computes x true q k).1) (λ x q k. let c = computes x false q k in (c.0, sym c.1)) in
+    lowest_is f n None (λ k l. none k (omega arith) (omega arith))
+lowest_from_find f n s u h (Some i) from to ran computes =
+    let first = first_from_Range s u h (Some i) (λ i. f i ≡ true) (λ i. f i ≡ false) ran (λ x q k. sym (computes x true q k).1) (λ x q k. let c = computes x false q k in (c.0, sym c.1)) in
+    lowest_is f n (Some i) (omega (arith, first.1), first.2, λ k l. first.3 k (omega arith) l)
 
 pub any_more : (f : ℕ → Bool) (n : ℕ) → any f n ≡ false → f n ≡ false → any f (n + 1) ≡ false
 any_more f n e h = rw (add-one, h) e

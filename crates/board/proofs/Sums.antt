@@ -1,25 +1,21 @@
 -- Sums over a table of units, as a chain takes them and as the charges say them.
-use Rattle.std.proofs.Common.{◌≡◌, ℕ, zero, suc, ◌*◌, ◌≤◌, Some, None, Option, List, length, get_or, take, ap, ◌∙◌, sym, refl, add-one, arith}
+use Rattle.std.proofs.Common.{◌≡◌, ℕ, ◌*◌, ◌≤◌, Some, None, Option, List, length, get_or, ap, ◌∙◌, sym, arith}
 use Rattle.std.specs.List.{sum_by}
 use Rattle.std.specs.Option.{option_map}
 use Rattle.std.proofs.lemmas.List.{take_all}
-use Rattle.std.proofs.lemmas.List.Sums.{sum_by_more}
 use Rattle.widths.specs.declared.Sides.{Sides}
 use Rattle.prices.specs.Prices.{Prices, Sound}
 use Rattle.prices.specs.Sums.{total}
 use Rattle.prices.specs.Totals.{total_most}
+use Rattle.prices.proofs.Front.{front_total}
 use Rattle.plans.specs.Plans.{units}
 use Rattle.plans.specs.Charges.{unit_charge}
 
 module _ {A : Type 0} (f : A → ℕ) (xs : List A) (d : A) where
-  front_total : (n : ℕ) → n ≤ length xs → sum_by f (take n xs) ≡ total (λ i. f (get_or xs i d)) n
-  front_total zero h = refl
-  front_total (suc n) h = rw (← add-one) (omega (arith, sum_by_more f xs n d (omega arith), front_total n (omega arith)))
-
   -- a sum over a table of all the numbers of units
   pub units_total : length xs ≡ 64 → sum_by f xs ≡ total (λ i. f (get_or xs i d)) units
   unfolding units
-  units_total h = ap (sum_by f) (sym (take_all 64 xs (omega arith))) ∙ front_total 64 (omega arith)
+  units_total h = ap (sum_by f) (sym (take_all 64 xs (omega arith))) ∙ front_total f xs d 64 (omega arith)
 
   units_most : (m : ℕ) → length xs ≡ 64 → ((x : A) → f x ≤ m) → sum_by f xs ≤ 64 * m
   unfolding units

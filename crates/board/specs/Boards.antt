@@ -6,8 +6,8 @@ use Rattle.graphs.specs.Graphs.{Graph}
 use Rattle.prices.specs.Prices.{Prices}
 use Rattle.plans.specs.declared.Placing.{Placing}
 use Rattle.plans.specs.declared.Life.{Life}
-use Rattle.plans.specs.Plans.{Plan}
-use Rattle.plans.specs.Calls.{Call, serves, disorder, crowding, life, verdict, after}
+use Rattle.plans.specs.Plans.{Plan, finish}
+use Rattle.plans.specs.Calls.{Call, serves, disorder, crowding, life, clash, verdict, after}
 use Rattle.sheet.specs.declared.Job.{Job}
 use Rattle.sheet.specs.Jobs.{graph_of}
 use Rattle.board.specs.declared.Board.{Board}
@@ -30,6 +30,9 @@ plan_on b = plan_of b.tables
 abbrev pub serves_on : {L : Type 0} → Board L → ℕ → ℕ → ℕ → Bool
 serves_on b k n o = serves (graph_on b) k n o ((plan_on b).placed o)
 
+abbrev pub finish_on : {L : Type 0} → (L → Prices) → Board L → ℕ → Placing → ℕ
+finish_on prices b = finish (graph_on b) (prices (list_on b)) (plan_on b)
+
 abbrev pub disorder_on : {L : Type 0} → (L → Prices) → Board L → ℕ → Placing → ℕ → Bool
 disorder_on prices b o p e = disorder (graph_on b) (prices (list_on b)) (plan_on b) o p e ((plan_on b).placed e)
 
@@ -38,6 +41,10 @@ crowding_on prices b o p e = crowding (graph_on b) (prices (list_on b)) (plan_on
 
 abbrev pub life_on : {L : Type 0} → (L → Prices) → Board L → ℕ → Option Life
 life_on prices b o = life (graph_on b) (prices (list_on b)) (plan_on b) o ((plan_on b).placed o)
+
+-- two lives share a step in a register, under a plan that may have a placing more than the board's own
+abbrev pub clash_on : {L : Type 0} → (L → Prices) → Board L → Plan → ℕ → Bool
+clash_on prices b pl = clash (graph_on b) (prices (list_on b)) pl
 
 -- what a call does to a board whose list has these prices: it answers its verdict, the plan afterwards is that of the rules, the job and
 -- the list stay, and a refusal leaves the whole board as it was

@@ -1,9 +1,13 @@
 -- How long values are wanted, and the registers that they stand in.
-use Rattle.std.specs.Prelude.{ℕ, max, Bool, false, cond, List, Some, None, Option, ◌==◌, slice_index_or}
+use Rattle.std.specs.Prelude.{◌≡◌, ℕ, ◌<◌, max, Bool, false, cond, List, Some, None, Option, length, ◌==◌, slice_index, slice_index_or}
 use Rattle.graphs.specs.Graphs.{Graph, count}
 use Rattle.prices.specs.Sums.{total, most}
 use Rattle.plans.specs.declared.Life.{Life}
 use Rattle.plans.specs.Plans.{Plan, reads, is_output, start_of}
+
+-- each entry of a table is raised, where it is lower, to the least value that its number asks for
+abbrev pub Raises : List ℕ → List ℕ → (ℕ → ℕ) → Type 0
+Raises old new least = (x : ℕ) → x < length old → slice_index new x ≡ max (slice_index old x) (least x)
 
 -- the last start of a placed reader, and the limit for an output
 abbrev pub wanted_until : Graph → Plan → ℕ → ℕ

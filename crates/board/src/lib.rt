@@ -13,10 +13,10 @@ ghost use Rattle.faults.specs.declared.Fault.TheVariants.{RegisterBusy};
 ghost use Rattle.graphs.specs.Graphs.{count};
 ghost use Rattle.prices.specs.Sums.{first_of, or_else, lowest};
 ghost use Rattle.plans.specs.Plans.{empty, units};
-ghost use Rattle.plans.specs.Calls.{hire as to_hire, dismiss as to_dismiss, place as to_place, lift as to_lift, place_causes, clash, with_placing};
+ghost use Rattle.plans.specs.Calls.{hire as to_hire, dismiss as to_dismiss, place as to_place, lift as to_lift, place_causes, with_placing};
 ghost use Rattle.plans.specs.Law.{BoardLaw};
 ghost use Rattle.sheet.specs.Jobs.{graph_of};
-ghost use Rattle.board.specs.Boards.{job_on, graph_on, list_on, plan_on, Obeys};
+ghost use Rattle.board.specs.Boards.{job_on, graph_on, list_on, plan_on, clash_on, Obeys};
 
 mod lives;
 mod questions;
@@ -27,8 +27,8 @@ use faults::Fault;
 pub use plans::{Life, Placing};
 use prices::PriceList;
 use sheet::Job;
-use tables::Tables;
-use widths::{Sides, UnitKind};
+use tables::{Tables, Unit};
+use widths::Sides;
 
 // Calls take their operands as bytes, so that one of no kind or out of its range is refused with its place.
 #[derive(Drop)]
@@ -38,11 +38,6 @@ pub struct Board<L> {
     tables: Tables,
 }
 
-// The law of every board of this job and this list.
-fn holds_law<L: PriceList>(job: &Job, list: &L)
-    ensures { BoardLaw (graph_of job.now) (L.prices list.now) }
-{}
-
 impl<L: PriceList> Board<L> {
     // A board with nothing hired. The law of the board holds for its job and its list.
     pub fn new(job: Job, list: L) -> Board<L>
@@ -50,7 +45,6 @@ impl<L: PriceList> Board<L> {
         ensures plan { plan_on result ≡ empty }
         ensures law { BoardLaw (graph_of job) (L.prices list) }
     {
-        holds_law(&job, &list);
         Board {
             job,
             list,
@@ -62,21 +56,18 @@ impl<L: PriceList> Board<L> {
     pub fn hire(&mut self, kind: u8, number: u8, w: u8, v: u8) -> Result<(), Fault>
         ensures { Obeys L.prices (to_hire kind number w v) self.old self.new result }
     {
-        let kind = UnitKind::try_from(kind).map_err(|_| Fault::CallOutOfRange(0))?;
-        if number >= 64 {
-            return Err(Fault::CallOutOfRange(1));
-        }
-        if !kind.has_first_side(w) {
+        let unit = Unit::named(kind, number)?;
+        if !unit.kind.has_first_side(w) {
             return Err(Fault::CallOutOfRange(2));
         }
         let sides = Sides { p: w, q: v };
-        if !kind.has_width(sides) {
+        if !unit.kind.has_width(sides) {
             return Err(Fault::CallOutOfRange(3));
         }
-        if self.tables.unit(kind, number).is_some() {
+        if self.tables.unit(unit).is_some() {
             return Err(Fault::AlreadyThere(1));
         }
-        self.tables.set_unit(kind, number, Some(sides));
+        self.tables.set_unit(unit, Some(sides));
         Ok(())
     }
 
@@ -84,17 +75,14 @@ impl<L: PriceList> Board<L> {
     pub fn dismiss(&mut self, kind: u8, number: u8) -> Result<(), Fault>
         ensures { Obeys L.prices (to_dismiss kind number) self.old self.new result }
     {
-        let kind = UnitKind::try_from(kind).map_err(|_| Fault::CallOutOfRange(0))?;
-        if number >= 64 {
-            return Err(Fault::CallOutOfRange(1));
-        }
-        if self.tables.unit(kind, number).is_none() {
+        let unit = Unit::named(kind, number)?;
+        if self.tables.unit(unit).is_none() {
             return Err(Fault::NotThere(1));
         }
-        if let Some(o) = self.serving(kind, number) {
+        if let Some(o) = self.serving(unit) {
             return Err(Fault::StillServing(o));
         }
-        self.tables.set_unit(kind, number, None);
+        self.tables.set_unit(unit, None);
         Ok(())
     }
 
@@ -124,7 +112,7 @@ impl<L: PriceList> Board<L> {
         if !self.has_operation(operation) {
             return Err(Fault::CallOutOfRange(0));
         }
-        if self.placed(operation as usize).is_none() {
+        if self.placed(operation.into()).is_none() {
             return Err(Fault::NotThere(0));
         }
         self.tables.set_placing(operation, None);
@@ -136,16 +124,17 @@ impl<L: PriceList> Board<L> {
         ensures value { result ≡ nat_lt operation (count (graph_on self.now)) }
         ensures low { T result → operation < 64 }
     {
-        (operation as usize) < self.count()
+        usize::from(operation) < self.count()
     }
 
     // Every cause but the last for which a placing can be refused, in the order of their numbers. The last is that two lives
     // meet once it stands on the board.
     fn judge(&self, operation: u8, p: Placing) -> Result<(), Fault>
-        ensures answer { first_of (place_causes (graph_on self.now) (L.prices (list_on self.now)) (plan_on self.now) operation p) ≡ or_else (result_err result) (option_map RegisterBusy (lowest (clash (graph_on self.now) (L.prices (list_on self.now)) (with_placing (plan_on self.now) operation (Some p))) units)) }
+        ensures answer { first_of (place_causes (graph_on self.now) (L.prices (list_on self.now)) (plan_on self.now) operation p) ≡ or_else (result_err result) (option_map RegisterBusy (lowest (clash_on L.prices self.now (with_placing (plan_on self.now) operation (Some p))) units)) }
         ensures there { OnOk result (operation < 64) }
         ensures free { OnOk result ((plan_on self.now).placed operation ≡ None) }
     {
+        // by a cast: where `From` widens this number, the proof of the clause `answer` does not close
         let o = operation as usize;
         if !self.has_operation(operation) {
             return Err(Fault::CallOutOfRange(0));
@@ -162,7 +151,7 @@ impl<L: PriceList> Board<L> {
         if self.unit_for(o, p.unit).is_none() {
             return Err(Fault::NotThere(1));
         }
-        if self.tables.unit(UnitKind::Register, p.register).is_none() {
+        if self.tables.unit(Unit::register(p.register)).is_none() {
             return Err(Fault::NotThere(3));
         }
         if !self.unit_covers(o, p.unit) {
@@ -172,7 +161,7 @@ impl<L: PriceList> Board<L> {
             return Err(Fault::TooNarrow(3));
         }
         let finish = self.finish_of(o, p);
-        if finish > self.job.limit() as u32 {
+        if finish > u32::from(self.job.limit()) {
             return Err(Fault::TooLate(finish as usize));
         }
         if let Some(e) = self.early(o, p) {

@@ -1,11 +1,11 @@
 // Lives: how long each value stands in its register, and whether two of them meet there.
-ghost use Rattle.std.specs.Prelude.{◌≡◌, ℕ, ◌+◌, ◌<◌, ◌≤◌, max, length, if◌then◌else◌, None, slice_index, slice_index_or};
+ghost use Rattle.std.specs.Prelude.{◌≡◌, ℕ, ◌+◌, ◌<◌, ◌≤◌, length, if◌then◌else◌, None, slice_index, slice_index_or};
 ghost use Rattle.graphs.specs.Graphs.{count};
 ghost use Rattle.prices.specs.Sums.{lowest, any, most};
 ghost use Rattle.plans.specs.Plans.{names, operation_reads, reads, is_output, start_of, units};
-ghost use Rattle.plans.specs.Calls.{meet, clash};
-ghost use Rattle.board.specs.Boards.{graph_on, list_on, plan_on, life_on};
-ghost use Rattle.board.specs.Lives.{wanted_until, stands_in, standing};
+ghost use Rattle.plans.specs.Calls.{meet};
+ghost use Rattle.board.specs.Boards.{graph_on, plan_on, life_on, clash_on};
+ghost use Rattle.board.specs.Lives.{Raises, wanted_until, stands_in, standing};
 
 use super::Board;
 use plans::{Life, Placing};
@@ -14,11 +14,11 @@ use sheet::{Operation, Source};
 
 // Raises the entry of the operation that a source names to this step, if it is lower.
 fn raise(until: &mut [u32], source: Source, step: u32)
-    ensures { (x : ℕ) → x < length until.old → slice_index until.new x ≡ max (slice_index until.old x) (if names source x then step else 0) }
+    ensures { Raises until.old until.new (λ x. if names source x then step else 0) }
 {
     if let Source::Earlier(e) = source {
         // by index: after a loan by `get_mut` nothing would be known of the other entries
-        let o = e as usize;
+        let o = usize::from(e);
         if o < until.len() {
             until[o] = until[o].max(step);
         }
@@ -27,7 +27,7 @@ fn raise(until: &mut [u32], source: Source, step: u32)
 
 // Raises the entries of an operation's operands to its start.
 fn raise_operands(until: &mut [u32], operation: Operation, start: u32)
-    ensures { (x : ℕ) → x < length until.old → slice_index until.new x ≡ max (slice_index until.old x) (if operation_reads operation x then start else 0) }
+    ensures { Raises until.old until.new (λ x. if operation_reads operation x then start else 0) }
 {
     let [a, b] = operation.operands();
     raise(until, a.source, start);
@@ -38,13 +38,13 @@ fn raise_operands(until: &mut [u32], operation: Operation, start: u32)
 fn start_of(placing: Option<Placing>) -> u32
     ensures { result ≡ start_of placing }
 {
-    placing.map_or(0, |p| p.start as u32)
+    placing.map_or(0, |p| p.start.into())
 }
 
 fn is_in(register: usize, value: Option<Life>) -> bool
     ensures { result ≡ stands_in register value }
 {
-    value.is_some_and(|x| x.register as usize == register)
+    value.is_some_and(|x| usize::from(x.register) == register)
 }
 
 // Whether both values stand in the register and share a step.
@@ -52,8 +52,8 @@ fn is_shared(register: usize, a: Option<Life>, b: Option<Life>) -> bool
     ensures { result ≡ meet register a b }
 {
     a.zip(b).is_some_and(|(x, y)| {
-        x.register as usize == register
-            && y.register as usize == register
+        usize::from(x.register) == register
+            && usize::from(y.register) == register
             && x.from <= y.through
             && y.from <= x.through
     })
@@ -66,7 +66,7 @@ fn enter(crowd: &mut [u8], value: Option<Life>)
 {
     if let Some(x) = value {
         // by index: after a loan by `get_mut` nothing would be known of the other entries
-        let q = x.register as usize;
+        let q = usize::from(x.register);
         if q < crowd.len() {
             crowd[q] += 1;
         }
@@ -86,8 +86,9 @@ fn crowd(lives: &[Option<Life>]) -> [u8; 64]
 }
 
 // The lowest register in which two lives share a step. A register with one value at most is passed over, and so is a value
-// that does not stand in the register, before it is held against the others. The project asks for these loops as they are:
-// nested, and left by their label.
+// that does not stand in the register, before it is held against the others. The search is written out as nested loops left
+// by their label, since it is the hottest of a placing and what it passes over shows there (docs/DECISIONS.md, "The search
+// for a clash").
 fn clash_in(lives: &[Option<Life>]) -> Option<usize>
     requires { length lives.now ≤ 64 }
     ensures { result ≡ lowest (λ q. any (λ x. any (λ y. meet q (slice_index_or lives.now x None) (slice_index_or lives.now y None)) x) (length lives.now)) units }
@@ -116,7 +117,7 @@ fn clash_in(lives: &[Option<Life>]) -> Option<usize>
 impl<L> Board<L> {
     // Raises each entry to the last start of a placed reader.
     fn raise_read(&self, until: &mut [u32])
-        ensures { (x : ℕ) → x < length until.old → slice_index until.new x ≡ max (slice_index until.old x) (most (λ r. (if reads (graph_on self.now) r x then start_of ((plan_on self.now).placed r) else 0)) (count (graph_on self.now))) }
+        ensures { Raises until.old until.new (λ x. most (λ r. (if reads (graph_on self.now) r x then start_of ((plan_on self.now).placed r) else 0)) (count (graph_on self.now))) }
     {
         for (r, operation) in self.job.operations().iter().enumerate() {
             raise_operands(until, *operation, start_of(self.placed(r)));
@@ -125,9 +126,9 @@ impl<L> Board<L> {
 
     // Raises the entries of the outputs to the limit.
     fn raise_outputs(&self, until: &mut [u32])
-        ensures { (x : ℕ) → x < length until.old → slice_index until.new x ≡ max (slice_index until.old x) (if is_output (graph_on self.now) x then (graph_on self.now).limit else 0) }
+        ensures { Raises until.old until.new (λ x. if is_output (graph_on self.now) x then (graph_on self.now).limit else 0) }
     {
-        let limit = self.job.limit() as u32;
+        let limit = self.job.limit().into();
         for o in self.job.outputs() {
             raise(until, Source::Earlier(*o), limit);
         }
@@ -183,7 +184,7 @@ impl<L: PriceList> Board<L> {
 
     // The lowest register of the board in which two lives share a step.
     pub(super) fn clashing(&self) -> Option<usize>
-        ensures { result ≡ lowest (clash (graph_on self.now) (L.prices (list_on self.now)) (plan_on self.now)) units }
+        ensures { result ≡ lowest (clash_on L.prices self.now (plan_on self.now)) units }
     {
         let lives = self.lives();
         clash_in(&lives[..self.count()])

@@ -2,16 +2,16 @@
 ghost use Rattle.std.specs.Prelude.{◌≡◌, ◌≤◌, ◌↔◌, IsTrue, length};
 ghost use Rattle.std.specs.List.{sum_by};
 ghost use Rattle.std.specs.Option.{option_map};
-ghost use Rattle.plans.specs.Plans.{Complete, finish};
+ghost use Rattle.plans.specs.Plans.{Complete};
 ghost use Rattle.plans.specs.Charges.{unit_charge, plan_charge};
-ghost use Rattle.plans.specs.Calls.{life};
-ghost use Rattle.board.specs.Boards.{job_on, graph_on, list_on, plan_on};
+ghost use Rattle.board.specs.Boards.{job_on, graph_on, list_on, plan_on, finish_on, life_on};
 
 use super::Board;
+use super::tables::Unit;
 use plans::{Life, Placing};
 use prices::PriceList;
 use sheet::Job;
-use widths::{Adder, Kind, Multiplier, Register, Sides, UnitKind};
+use widths::{Adder, Kind, Multiplier, Register, Sides};
 
 impl<L: PriceList> Board<L> {
     // The charge of a hired unit; 0 where none is hired.
@@ -52,30 +52,30 @@ impl<L: PriceList> Board<L> {
     pub fn unit(&self, kind: u8, number: u8) -> Option<Sides>
         ensures { result ≡ (plan_on self.now).hired kind number }
     {
-        let kind = UnitKind::try_from(kind).ok()?;
-        self.tables.unit(kind, number)
+        let unit = Unit::named(kind, number).ok()?;
+        self.tables.unit(unit)
     }
 
     // The placing of an operation, if it has one.
     pub fn placing(&self, operation: u8) -> Option<Placing>
         ensures { result ≡ (plan_on self.now).placed operation }
     {
-        self.placed(operation as usize)
+        self.placed(operation.into())
     }
 
     // The step at which an operation finishes, if it is placed.
     pub fn finish(&self, operation: u8) -> Option<u32>
-        ensures { result ≡ option_map (finish (graph_on self.now) (L.prices (list_on self.now)) (plan_on self.now) operation) ((plan_on self.now).placed operation) }
+        ensures { result ≡ option_map (finish_on L.prices self.now operation) ((plan_on self.now).placed operation) }
     {
-        let o = operation as usize;
+        let o = operation.into();
         self.placed(o).map(|p| self.finish_of(o, p))
     }
 
     // The register of an operation's value, and the first and the last step of its life, if it is placed.
     pub fn life(&self, operation: u8) -> Option<Life>
-        ensures { result ≡ life (graph_on self.now) (L.prices (list_on self.now)) (plan_on self.now) operation ((plan_on self.now).placed operation) }
+        ensures { result ≡ life_on L.prices self.now operation }
     {
-        self.life_at(operation as usize)
+        self.life_at(operation.into())
     }
 
     // Whether every operation is placed.

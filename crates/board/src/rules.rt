@@ -4,11 +4,11 @@ ghost use Rattle.std.specs.Option.{option_map};
 ghost use Rattle.widths.specs.Kinds.{code_of};
 ghost use Rattle.graphs.specs.Graphs.{operation_at, count, value_width};
 ghost use Rattle.prices.specs.Sums.{lowest};
-ghost use Rattle.plans.specs.Plans.{names, reads, kind_at, own_at, value_at, register, steps_of, finish, wide};
-ghost use Rattle.board.specs.Boards.{graph_on, list_on, plan_on, serves_on, disorder_on, crowding_on};
+ghost use Rattle.plans.specs.Plans.{names, reads, kind_at, own_at, value_at, register, steps_of, wide};
+ghost use Rattle.board.specs.Boards.{graph_on, list_on, plan_on, serves_on, finish_on, disorder_on, crowding_on};
 
 use super::Board;
-use super::tables::entry;
+use super::tables::{Unit, entry};
 use plans::Placing;
 use prices::PriceList;
 use sheet::{Operand, Operation, Source};
@@ -22,7 +22,7 @@ const NOTHING: Operand = Operand {
 fn is_named(source: Source, e: usize) -> bool
     ensures { result ≡ names source e }
 {
-    matches!(source, Source::Earlier(x) if x as usize == e)
+    matches!(source, Source::Earlier(x) if usize::from(x) == e)
 }
 
 impl<L> Board<L> {
@@ -64,11 +64,22 @@ impl<L> Board<L> {
         self.operation(o).kind()
     }
 
+    // The unit with a number of the kind that an operation runs on.
+    fn unit_of(&self, o: usize, number: u8) -> Unit
+        ensures kind { code_of result.kind ≡ kind_at (graph_on self.now) o }
+        ensures number { result.number ≡ number }
+    {
+        Unit {
+            kind: self.kind_of(o),
+            number,
+        }
+    }
+
     // The sides of the unit with a number that an operation is put on, if it is hired.
     pub(super) fn unit_for(&self, o: usize, unit: u8) -> Option<Sides>
         ensures { result ≡ (plan_on self.now).hired (kind_at (graph_on self.now) o) unit }
     {
-        self.tables.unit(self.kind_of(o), unit)
+        self.tables.unit(self.unit_of(o, unit))
     }
 
     // Whether the unit covers the operation.
@@ -93,25 +104,24 @@ impl<L> Board<L> {
         ensures { result ≡ wide ((plan_on self.now).hired register number) (value_at (graph_on self.now) o) }
     {
         let value = self.value_bits(o).into();
-        let unit = self.tables.unit(UnitKind::Register, number);
-        unit.is_some_and(|w| w.covers(value))
+        let register = self.tables.unit(Unit::register(number));
+        register.is_some_and(|w| w.covers(value))
     }
 
-    // Whether the unit of a kind with a number serves the operation.
-    fn is_served(&self, kind: UnitKind, number: u8, o: usize) -> bool
-        ensures { result ≡ serves_on self.now (code_of kind) number o }
+    // Whether the unit serves the operation.
+    fn is_served(&self, unit: Unit, o: usize) -> bool
+        ensures { result ≡ serves_on self.now (code_of unit.kind) unit.number o }
     {
         self.placed(o).is_some_and(|p| {
-            self.kind_of(o) == kind && p.unit == number
-                || kind == UnitKind::Register && p.register == number
+            self.unit_of(o, p.unit) == unit || Unit::register(p.register) == unit
         })
     }
 
     // The lowest operation that the unit serves.
-    pub(super) fn serving(&self, kind: UnitKind, number: u8) -> Option<usize>
-        ensures { result ≡ lowest (λ o. serves_on self.now (code_of kind) number o) (count (graph_on self.now)) }
+    pub(super) fn serving(&self, unit: Unit) -> Option<usize>
+        ensures { result ≡ lowest (λ o. serves_on self.now (code_of unit.kind) unit.number o) (count (graph_on self.now)) }
     {
-        (0..self.count()).find(|o| self.is_served(kind, number, *o))
+        (0..self.count()).find(|o| self.is_served(unit, *o))
     }
 }
 
@@ -123,12 +133,12 @@ impl<L: PriceList> Board<L> {
         unit.map_or(0, |w| self.list.latency::<K>(w))
     }
 
-    // The steps that the unit of a kind with a number takes; 0 where none is hired.
-    fn unit_steps(&self, kind: UnitKind, number: u8) -> u8
-        ensures { result ≡ steps_of (L.prices (list_on self.now)) (code_of kind) ((plan_on self.now).hired (code_of kind) number) }
+    // The steps that the unit takes; 0 where it is not hired.
+    fn unit_steps(&self, unit: Unit) -> u8
+        ensures { result ≡ steps_of (L.prices (list_on self.now)) (code_of unit.kind) ((plan_on self.now).hired (code_of unit.kind) unit.number) }
     {
-        let n = number as usize;
-        match kind {
+        let n = usize::from(unit.number);
+        match unit.kind {
             UnitKind::Adder => self.steps::<Adder>(entry(&self.tables.adders, n)),
             UnitKind::Multiplier => self.steps::<Multiplier>(entry(&self.tables.multipliers, n)),
             UnitKind::Register => self.steps::<Register>(entry(&self.tables.registers, n)),
@@ -138,9 +148,10 @@ impl<L: PriceList> Board<L> {
     // The step at which an operation that is placed so finishes.
     #[tactic(auto, unfolding(plans::specs::Plans::finish_with))]
     pub(super) fn finish_of(&self, o: usize, p: Placing) -> u32
-        ensures { result ≡ finish (graph_on self.now) (L.prices (list_on self.now)) (plan_on self.now) o p }
+        ensures { result ≡ finish_on L.prices self.now o p }
     {
-        p.start as u32 + self.unit_steps(self.kind_of(o), p.unit) as u32
+        let unit = self.unit_of(o, p.unit);
+        u32::from(p.start) + u32::from(self.unit_steps(unit))
     }
 
     // Whether one of o, placed at p, and e reads the other before it finishes.
@@ -148,8 +159,8 @@ impl<L: PriceList> Board<L> {
         ensures { result ≡ disorder_on L.prices self.now o p e }
     {
         self.placed(e).is_some_and(|q| {
-            self.is_reader(o, e) && (p.start as u32) < self.finish_of(e, q)
-                || self.is_reader(e, o) && (q.start as u32) < self.finish_of(o, p)
+            self.is_reader(o, e) && u32::from(p.start) < self.finish_of(e, q)
+                || self.is_reader(e, o) && u32::from(q.start) < self.finish_of(o, p)
         })
     }
 
@@ -167,8 +178,8 @@ impl<L: PriceList> Board<L> {
         self.placed(e).is_some_and(|q| {
             q.unit == p.unit
                 && self.kind_of(e) == self.kind_of(o)
-                && (p.start as u32) < self.finish_of(e, q)
-                && (q.start as u32) < self.finish_of(o, p)
+                && u32::from(p.start) < self.finish_of(e, q)
+                && u32::from(q.start) < self.finish_of(o, p)
         })
     }
 

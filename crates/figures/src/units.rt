@@ -4,29 +4,25 @@ use std::process::Abort;
 use std::test::Fail;
 use widths::{Adder, Kind, Multiplier, Register, covers, lies_under};
 
-// Whether each of these is a width of the kind.
-fn widths_are<K: Kind>(rt: &impl Abort, cases: &[(K::Width, bool)]) {
-    for (width, is_width) in cases {
-        assert_eq!(rt; K::is_width(*width), *is_width);
+// Whether each of these is a width of the kind, or a cell.
+fn told<K: Kind>(rt: &impl Abort, widths: &[(K::Width, bool)], cells: &[(K::Width, bool)]) {
+    for (width, there) in widths {
+        assert_eq!(rt; K::is_width(*width), *there);
+    }
+    for (cell, there) in cells {
+        assert_eq!(rt; K::is_cell(*cell), *there);
     }
 }
 
-// Whether each of these is a cell of the kind.
-fn cells_are<K: Kind>(rt: &impl Abort, cases: &[(K::Width, bool)]) {
-    for (cell, is_cell) in cases {
-        assert_eq!(rt; K::is_cell(*cell), *is_cell);
-    }
-}
-
-fn adder_widths(rt: &impl Abort) {
-    let cases = [(0, false), (1, true), (40, true), (41, false)];
-    widths_are::<Adder>(rt, &cases);
-    cells_are::<Adder>(rt, &cases);
-}
-
-fn multiplier_widths(rt: &impl Abort) {
-    widths_are::<Multiplier>(
-        rt,
+#[test]
+fn widths_of_kinds(rt: HostRuntime) {
+    assert_eq!(rt; Adder::cell_count(), 40);
+    assert_eq!(rt; Multiplier::cell_count(), 960);
+    assert_eq!(rt; Register::cell_count(), 64);
+    let sides = [(0, false), (1, true), (40, true), (41, false)];
+    told::<Adder>(&rt, &sides, &sides);
+    told::<Multiplier>(
+        &rt,
         &[
             ((1, 1), true),
             ((40, 24), true),
@@ -35,9 +31,6 @@ fn multiplier_widths(rt: &impl Abort) {
             ((40, 25), false),
             ((5, 0), false),
         ],
-    );
-    cells_are::<Multiplier>(
-        rt,
         &[
             ((1, 24), true),
             ((40, 24), true),
@@ -47,21 +40,11 @@ fn multiplier_widths(rt: &impl Abort) {
             ((1, 0), false),
         ],
     );
-}
-
-fn register_widths(rt: &impl Abort) {
-    widths_are::<Register>(rt, &[(0, false), (64, true), (65, false)]);
-    cells_are::<Register>(rt, &[(1, true), (64, true), (65, false)]);
-}
-
-#[test]
-fn widths_of_kinds(rt: HostRuntime) {
-    assert_eq!(rt; Adder::cell_count(), 40);
-    assert_eq!(rt; Multiplier::cell_count(), 960);
-    assert_eq!(rt; Register::cell_count(), 64);
-    adder_widths(&rt);
-    multiplier_widths(&rt);
-    register_widths(&rt);
+    told::<Register>(
+        &rt,
+        &[(0, false), (64, true), (65, false)],
+        &[(1, true), (64, true), (65, false)],
+    );
 }
 
 #[test]

@@ -1,3 +1,4 @@
+pub mod Exits
 pub mod Scripts
 pub mod Taken
 pub mod Exact

@@ -5,7 +5,7 @@ use Rattle.std.specs.List.{range_with_len}
 use Rattle.std.proofs.lemmas.Int.{to_z-of_z}
 use Rattle.std.proofs.lemmas.List.{drop_more, set_at, get_or_append_left, length-map, length-take-le, map_more}
 use Rattle.std.proofs.lemmas.List.FromFn.{length-map-range_with_len, map-range_with_len_more, get_or-map-range_with_len}
-use Rattle.std.proofs.lemmas.Bool.{and_parts, and_from, ltb-true, leb-true, lt-ltb}
+use Rattle.std.proofs.lemmas.Bool.{and_parts, ltb-true, leb-true}
 use Rattle.widths.specs.Kinds.{valid, sides_of}
 use Rattle.words.specs.Cut.{cut_to}
 use Rattle.words.proofs.Sizes.{cut_size}
@@ -15,7 +15,7 @@ use Rattle.graphs.specs.declared.Operand.{Operand}
 use Rattle.graphs.specs.declared.Operation.{Operation}
 use Rattle.graphs.specs.declared.Operation.TheVariants.{Add, Multiply}
 use Rattle.graphs.specs.Graphs.{Graph, WellFormed, is_named, good_operand, good_operation, operation_at, no_operation, count}
-use Rattle.graphs.specs.Values.{source_value, operand_value, operation_value, value_within, value, operation_values, output_values, overwritten, ValuesLaw}
+use Rattle.graphs.specs.Values.{source_value, operand_value, operation_value, value_within, value, operation_values, output_values, value_in, overwritten, ValuesLaw}
 
 module _ (widths : List ℕ) (xs : List ℤ) (V W : ℕ → ℤ) (o : ℕ) (same : (e : ℕ) → e < o → V e ≡ W e) where
   source_same : (n : ℕ) (x : Source) → is_named n o x ≡ true → source_value widths xs V x ≡ source_value widths xs W x
@@ -58,24 +58,6 @@ module _ (G : Graph) (wf : WellFormed G) (xs : List ℤ) where
   pub values_law : ValuesLaw G xs
   values_law = record { follows = follows; only = λ V meets o there. only_below V meets (suc o) o (omega arith) there }
 
--- more operations to name, as many good operations
-named_more : (n o m : ℕ) (x : Source) → o ≤ m → is_named n o x ≡ true → is_named n m x ≡ true
-named_more n o m (Input i) h g = g
-named_more n o m (Earlier e) h g = let l = ltb-true e o g in lt-ltb e m (omega arith)
-
-operand_more : (n o m : ℕ) (x : Operand) → o ≤ m → good_operand n o x ≡ true → good_operand n m x ≡ true
-operand_more n o m x h g = let p = and_parts (leb x.drop 63) _ g in and_from (leb x.drop 63) _ p.0 (named_more n o m x.source h p.1)
-
-pub operation_more : (n o m : ℕ) (x : Operation) → o ≤ m → good_operation n o x ≡ true → good_operation n m x ≡ true
-operation_more n o m (Add p a b) h g =
-    let v = and_parts (valid 0 (sides_of p 0)) _ g in
-    let w = and_parts (good_operand n o a) (good_operand n o b) v.1 in
-    and_from (valid 0 (sides_of p 0)) _ v.0 (and_from _ _ (operand_more n o m a h w.0) (operand_more n o m b h w.1))
-operation_more n o m (Multiply p q a b) h g =
-    let v = and_parts (valid 1 (sides_of p q)) _ g in
-    let w = and_parts (good_operand n o a) (good_operand n o b) v.1 in
-    and_from (valid 1 (sides_of p q)) _ v.0 (and_from _ _ (operand_more n o m a h w.0) (operand_more n o m b h w.1))
-
 -- what the ports of an operation read is small
 pub port_small : (r z : ℤ) (d w n : ℕ) → SFits w64 r → r ≡ cut_to z d w → 1 ≤ w → w ≤ suc n → mag (to_z w64 (of_z w64 r)) < 2 ^ n
 port_small r z d w n f e some most = subst (λ x. mag x < 2 ^ n) (sym (to_z-of_z w64 r f ∙ e)) (cut_size z d w n some most)
@@ -106,10 +88,7 @@ module _ (G : Graph) (wf : WellFormed G) (xs : List ℤ) (ops : List Operation) 
   fine : good_operation (length G.inputs) o (get_or ops o no_operation) ≡ true
   fine = ap (λ x. good_operation (length G.inputs) o (get_or x o no_operation)) ops_are ∙ wf.operation o inside
 
-  pub value_ready : (m : ℕ) → o ≤ m → good_operation (length G.inputs) m (get_or ops o no_operation) ≡ true
-  value_ready m h = operation_more (length G.inputs) o m (get_or ops o no_operation) h fine
-
-  module _ (vs out : List ℤ) (r : ℤ) (fits : SFits w64 r) (is : r ≡ operation_value G.inputs xs (λ e. get_or vs e (pos 0)) (get_or ops o no_operation)) (before : vs ≡ map (value G xs) (range_with_len 0 o) ++ drop o out) where
+  module _ (vs out : List ℤ) (r : ℤ) (fits : SFits w64 r) (is : r ≡ operation_value G.inputs xs (value_in vs) (get_or ops o no_operation)) (before : vs ≡ map (value G xs) (range_with_len 0 o) ++ drop o out) where
     at_front : (e : ℕ) → e < o → get_or vs e (pos 0) ≡ value G xs e
     at_front e h =
         let l = length-map-range_with_len (value G xs) 0 o in
@@ -120,7 +99,7 @@ module _ (G : Graph) (wf : WellFormed G) (xs : List ℤ) (ops : List Operation) 
     next_value : to_z w64 (of_z w64 r) ≡ value G xs o
     next_value =
         to_z-of_z w64 r fits ∙ is
-        ∙ operation_same G.inputs xs (λ e. get_or vs e (pos 0)) (value G xs) o at_front (length G.inputs) (get_or ops o no_operation) fine
+        ∙ operation_same G.inputs xs (value_in vs) (value G xs) o at_front (length G.inputs) (get_or ops o no_operation) fine
         ∙ ap (λ x. operation_value G.inputs xs (value G xs) (get_or x o no_operation)) ops_are
         ∙ sym (follows G wf xs o inside)
 
@@ -137,7 +116,7 @@ module _ (f : ℕ → ℤ) (named : List ℕ) (out : List ℤ) where
       ∙ ap (λ x. x ++ drop (k + 1) out) (ap (λ x. map f (take k named) ++ x ∷ []) is ∙ sym (map_more f named k 0 there))
 
 -- the values of named operations, taken from a buffer that begins with all of them
-picked_front : (f : ℕ → ℤ) (n : ℕ) (rest : List ℤ) (named : List ℕ) → ((k : ℕ) → k < length named → get_or named k 0 < n) → map (λ o. get_or (map f (range_with_len 0 n) ++ rest) o (pos 0)) named ≡ map f named
+picked_front : (f : ℕ → ℤ) (n : ℕ) (rest : List ℤ) (named : List ℕ) → ((k : ℕ) → k < length named → get_or named k 0 < n) → map (value_in (map f (range_with_len 0 n) ++ rest)) named ≡ map f named
 picked_front f n rest [] h = refl
 picked_front f n rest (o ∷ named) h =
     let l = length-map-range_with_len f 0 n in
@@ -146,7 +125,7 @@ picked_front f n rest (o ∷ named) h =
     (get_or_append_left (map f (range_with_len 0 n)) rest (pos 0) o (omega arith) ∙ get_or-map-range_with_len f 0 n o o (pos 0) small (omega arith))
     (picked_front f n rest named (λ k g. h (suc k) (omega arith)))
 
-pub outputs_are : (G : Graph) → WellFormed G → (xs : List ℤ) (vs out : List ℤ) → vs ≡ overwritten (operation_values G xs) out → map (λ o. get_or vs o (pos 0)) G.outputs ≡ output_values G xs
+pub outputs_are : (G : Graph) → WellFormed G → (xs : List ℤ) (vs out : List ℤ) → vs ≡ overwritten (operation_values G xs) out → map (value_in vs) G.outputs ≡ output_values G xs
 outputs_are G wf xs vs out e =
-    ap (λ x. map (λ o. get_or x o (pos 0)) G.outputs) e
+    ap (λ x. map (value_in x) G.outputs) e
     ∙ picked_front (value G xs) (count G) (drop (length (operation_values G xs)) out) G.outputs wf.output

@@ -63,7 +63,7 @@ pub record IsFirst {A : Type 0} (F : Format A) (s : Unread) (c : A) (t : Unread)
   pub inside : t.at ≤ length s.bytes
   pub said : script_of F s ≡ next c (t.at - s.at) (script_of F t)
 
--- of the bytes s a reader gets the first command, or why it cannot be read; and the bytes t are left
+-- a reader of the bytes s is given their first command, and the bytes t behind it are left; or it is told why there is none, and nothing is left
 abbrev pub ReadsFirst : {A : Type 0} → Format A → Unread → Result A Fault → Unread → Type 0
 ReadsFirst F s (Ok c) t = IsFirst F s c t
 ReadsFirst F s (Err f) t = (refusal s.at (script_of F s) ≡ Some f) × IsAtEnd t

@@ -49,6 +49,10 @@ abbrev pub room_answer : ℕ → ℕ → ℕ → ℕ → Result ℕ Fault
 room_answer wanted given needed room =
     cond (given == wanted) (cond (nat_le needed room) (Ok needed) (Err (BufferTooShort needed))) (Err (SampleCount wanted))
 
+-- the value that stands at a place of a buffer, and 0 past its end
+abbrev pub value_in : List ℤ → ℕ → ℤ
+value_in values place = slice_index_or values place (pos 0)
+
 -- what a buffer holds after values are written at its front
 abbrev pub overwritten : List ℤ → List ℤ → List ℤ
 overwritten vs out = vs ++ drop (length vs) out

@@ -1,6 +1,6 @@
 // The commands of a sheet: their bytes, and what their operands are.
 ghost use Rattle.std.specs.Prelude.{◌≡◌};
-ghost use Rattle.graphs.specs.Commands.{sheet_format, operand_of};
+ghost use Rattle.graphs.specs.Commands.{sheet_format, source_of, operand_of};
 
 use crate::coded::Coded;
 use crate::{Command, Feed, Operand, Source};
@@ -55,16 +55,23 @@ fn feed(source: u8, drop: u8) -> Feed
 }
 
 // A source byte names an input up to 15, and else an operation, counted from 64.
+impl From<u8> for Source {
+    ghost from_gives = { λ byte source. source ≡ source_of byte };
+
+    fn from(byte: u8) -> Source {
+        match byte {
+            input @ 0..=15 => Source::Input(input),
+            operation => Source::Earlier(operation.saturating_sub(64)),
+        }
+    }
+}
+
 impl From<Feed> for Operand {
     ghost from_gives = { λ feed x. x ≡ operand_of feed };
 
     fn from(feed: Feed) -> Operand {
-        let source = match feed.source {
-            input @ 0..=15 => Source::Input(input),
-            operation => Source::Earlier(operation.saturating_sub(64)),
-        };
         Operand {
-            source,
+            source: feed.source.into(),
             drop: feed.drop,
         }
     }

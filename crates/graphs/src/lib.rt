@@ -1,6 +1,7 @@
-// Sequencing graphs and the commands of the sheets that describe them: the definitions that the product's promises rest on.
+// Sequencing graphs and the sheets that describe them: the definitions that the product's promises rest on.
 //
-// There is little code here: what an operation is, and `Commands`, which reads the commands of any format from their bytes.
+// This file says what an operation and a command of a sheet are. `coded.rt` reads the commands of any format from their bytes, one after
+// the other; `commands.rt` is the format of a sheet: the bytes of its commands, and what a source byte means.
 // `specs/` says when a graph is well-formed, how its sheet is written and read, and what values its operations have; `proofs/`
 // has the laws of reading and of values, for the calls that promise them.
 #![tactic(auto)]

@@ -1,11 +1,10 @@
 // Answering an order: its sheet is read, and its requests are made to a board one after the other.
-ghost use Rattle.std.specs.Prelude.{◌≡◌, ◌+◌, ◌≤◌, ◌++◌, length, string_bytes, MatchResult};
+ghost use Rattle.std.specs.Prelude.{◌≡◌, ◌+◌, ◌≤◌, ◌++◌, length, string_bytes, IfOk, MatchResult};
 ghost use Rattle.faults.specs.declared.Fault.TheVariants.{OutOfMemory};
 ghost use Rattle.faults.specs.Faults.{line_of};
 ghost use Rattle.graphs.specs.Reading.{read};
-ghost use Rattle.board.specs.Boards.{job_on, graph_on, list_on, plan_on};
-ghost use Rattle.orders.specs.Orders.{answer_to, plan_then, answers_from, line, opened, order_text};
-ghost use Rattle.orders.specs.Steps.{told, Writes};
+ghost use Rattle.orders.specs.Orders.{line, opened, order_text};
+ghost use Rattle.orders.specs.Steps.{told, answer_on, answers_on, Follows, Writes};
 
 use super::replies::Reply;
 use super::requests::Request;
@@ -18,9 +17,8 @@ use std::alloc::Global;
 
 // Makes a request to the board.
 fn obey<L: PriceList>(board: &mut Board<L>, request: Request) -> Result<Reply, Fault>
-    ensures answer { told result ≡ answer_to (graph_on board.old) (L.PriceList.prices (list_on board.old)) (plan_on board.old) request }
-    ensures plan { plan_on board.new ≡ plan_then (graph_on board.old) (L.PriceList.prices (list_on board.old)) (plan_on board.old) request }
-    ensures kept { (job_on board.new ≡ job_on board.old) × (list_on board.new ≡ list_on board.old) }
+    ensures answer { told result ≡ answer_on L.prices board.old request }
+    ensures board { Follows L.prices request board.old board.new }
 {
     match request {
         Request::Hire(kind, number, w, v) => board.hire(kind, number, w, v)?,
@@ -43,9 +41,8 @@ fn answer_request<L: PriceList>(
     request: Request,
     out: &mut String,
 ) -> Result<(), Fault>
-    ensures text { MatchResult result (λ _. string_bytes out.new ≡ string_bytes out.old ++ line (answer_to (graph_on board.old) (L.PriceList.prices (list_on board.old)) (plan_on board.old) request)) (λ f. f ≡ OutOfMemory) }
-    ensures plan { plan_on board.new ≡ plan_then (graph_on board.old) (L.PriceList.prices (list_on board.old)) (plan_on board.old) request }
-    ensures kept { (job_on board.new ≡ job_on board.old) × (list_on board.new ≡ list_on board.old) }
+    ensures text { MatchResult result (λ _. string_bytes out.new ≡ string_bytes out.old ++ line (answer_on L.prices board.old request)) (λ f. f ≡ OutOfMemory) }
+    ensures board { Follows L.prices request board.old board.new }
 {
     match obey(board, request) {
         Ok(reply) => out.writeln(reply)?,
@@ -60,7 +57,7 @@ fn answer_requests<L: PriceList>(
     requests: Commands<'_, Request>,
     out: &mut String,
 ) -> Result<(), Fault>
-    ensures { Writes (answers_from (graph_on board.old) (L.PriceList.prices (list_on board.old)) (plan_on board.old) requests.entry.bytes requests.entry.at) (string_bytes out.old) (string_bytes out.new) result }
+    ensures { Writes (answers_on L.prices board.old requests.entry) (string_bytes out.old) (string_bytes out.new) result }
 {
     for (_, request) in requests {
         answer_request(board, request?, out)?;
@@ -70,7 +67,8 @@ fn answer_requests<L: PriceList>(
 
 // The sheet of an order; its length stands before it in two bytes, high first.
 fn sheet_in(bytes: &[u8]) -> Result<&[u8], Fault>
-    ensures { MatchResult result (λ s. (length s.now + 2 ≤ length bytes.now) × (order_text bytes.now ≡ opened (read s.now) bytes.now (length s.now + 2))) (λ f. order_text bytes.now ≡ line (line_of f)) }
+    ensures inside { IfOk result (λ s. length s.now + 2 ≤ length bytes.now) }
+    ensures text { MatchResult result (λ s. order_text bytes.now ≡ opened (read s.now) bytes.now (length s.now + 2)) (λ f. order_text bytes.now ≡ line (line_of f)) }
 {
     let [high, low, rest @ ..] = bytes else {
         return Err(Fault::CutShort(0));

@@ -1,6 +1,7 @@
--- A table's charge as the code sums it: the first entries of the charges of the kind.
-use Rattle.std.specs.Prelude.{◌≡◌, ℕ, zero, suc, ◌+◌, ◌≤◌, true, List, length, sum, slice_index, take, refl}
-use Rattle.std.proofs.Common.{add-one, arith, ap, sym, ◌∙◌}
+-- A sum over the first entries of a table, counted entry by entry, and a table's charge so.
+use Rattle.std.specs.Prelude.{◌≡◌, ℕ, zero, suc, ◌≤◌, true, List, length, sum, take, slice_index_or, refl}
+use Rattle.std.specs.List.{sum_by}
+use Rattle.std.proofs.Common.{add-one, arith, sym, ◌∙◌}
 use Rattle.std.proofs.lemmas.List.Sums.{sum_by_more}
 use Rattle.widths.specs.declared.Sides.{Sides}
 use Rattle.widths.specs.Kinds.{valid}
@@ -9,15 +10,12 @@ use Rattle.prices.specs.Prices.{charge}
 use Rattle.prices.specs.Lists.{by_kind, table}
 use Rattle.prices.specs.TableLaw.{table_charge}
 
--- counted entry by entry
-sum_front : (xs : List ℕ) (n : ℕ) → n ≤ length xs → sum (take n xs) ≡ total (λ i. slice_index xs i) n
-sum_front xs zero h = refl
-sum_front xs (suc n) h =
-    let e : sum (take (n + 1) xs) ≡ sum (take n xs) + slice_index xs n = sum_by_more (λ x. x) xs n 0 (omega arith) in
-    rw add-one at e ∙ ap (λ t. t + slice_index xs n) (sum_front xs n (omega arith))
+pub front_total : {A : Type 0} (f : A → ℕ) (xs : List A) (d : A) (n : ℕ) → n ≤ length xs → sum_by f (take n xs) ≡ total (λ i. f (slice_index_or xs i d)) n
+front_total f xs d zero h = refl
+front_total f xs d (suc n) h = rw (← add-one) (omega (arith, sum_by_more f xs n d (omega arith), front_total f xs d n (omega arith)))
 
 pub charge_front : (adders firsts registers adder_steps multiplier_steps : List ℕ) (k : ℕ) (w : Sides)
     → valid k w ≡ true → w.p ≤ length (by_kind k adders firsts registers)
     → charge (table adders firsts registers adder_steps multiplier_steps) k w ≡ sum (take w.p (by_kind k adders firsts registers))
 charge_front adders firsts registers adder_steps multiplier_steps k w v h =
-    table_charge adders firsts registers adder_steps multiplier_steps k w v ∙ sym (sum_front (by_kind k adders firsts registers) w.p h)
+    table_charge adders firsts registers adder_steps multiplier_steps k w v ∙ sym (front_total (λ x. x) (by_kind k adders firsts registers) 0 w.p h)

@@ -1,9 +1,9 @@
 // The table list: charges and latencies row by row, by the first side of a cell or a width.
-ghost use Rattle.std.specs.Prelude.{◌≡◌, ◌+◌, ◌<◌, ◌≤◌, length, sum, MatchOption, IfOk};
+ghost use Rattle.std.specs.Prelude.{◌≡◌, ◌+◌, ◌<◌, ◌≤◌, length, sum, MatchOption, IfOk, OnOk};
 ghost use Rattle.std.specs.Result.{result_err};
 ghost use Rattle.widths.specs.Kinds.{code_of, widest};
 ghost use Rattle.prices.specs.Lists.{by_kind, table};
-ghost use Rattle.prices.specs.Refusals.{falls, first_fall, table_fault, Charges, Rising};
+ghost use Rattle.prices.specs.Refusals.{falls, first_fall, row_fault, table_fault, Charges, Rising};
 ghost use Rattle.prices.specs.TableLaw.{table_sound};
 
 use super::PriceList;
@@ -46,12 +46,8 @@ impl Table {
         ensures adder_steps { IfOk result (λ list. list.adder_steps ≡ adder_steps) }
         ensures multiplier_steps { IfOk result (λ list. list.multiplier_steps ≡ multiplier_steps) }
     {
-        if let Some(row) = fall_in(&adder_steps) {
-            return Err(Fault::FaultyList(Maker::Table, row));
-        }
-        if let Some(row) = fall_in(&multiplier_steps) {
-            return Err(Fault::FaultyList(Maker::Table, MULTIPLIER_ROWS + row));
-        }
+        judge_rows(0, &adder_steps)?;
+        judge_rows(MULTIPLIER_ROWS, &multiplier_steps)?;
         all_fit(&adders);
         all_fit(&firsts);
         all_fit(&registers);
@@ -109,6 +105,18 @@ fn fall_in(steps: &[u8; 40]) -> Option<u8>
     ensures told { MatchOption result (Rising steps.now) (λ row. row < 40) }
 {
     (0..40).find(|row| falls_at(steps, *row))
+}
+
+// Refuses latencies of which one is 0 or below the one before, with its row, counted from that of the first.
+fn judge_rows(first: u8, steps: &[u8; 40]) -> Result<(), Fault>
+    requires { first ≤ 40 }
+    ensures refusal { result_err result ≡ row_fault first (first_fall steps.now) }
+    ensures taken { OnOk result (Rising steps.now) }
+{
+    if let Some(row) = fall_in(steps) {
+        return Err(Fault::FaultyList(Maker::Table, first + row));
+    }
+    Ok(())
 }
 
 impl PriceList for Table {

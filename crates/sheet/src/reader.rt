@@ -9,7 +9,7 @@ ghost use Rattle.sheet.specs.Jobs.{graph_of};
 use super::Job;
 use super::commands::in_range;
 use faults::Fault;
-use graphs::{Command, Commands, Operand, Operation, Source};
+use graphs::{Command, Commands, Operation, Source};
 use std::alloc::Global;
 
 // What was read so far, before END.
@@ -73,7 +73,7 @@ impl Draft {
         match command {
             Command::Steps(_) | Command::Input(_) | Command::End => true,
             Command::Add(_, a, b) | Command::Multiply(_, _, a, b) => {
-                self.is_named(Operand::from(a).source) && self.is_named(Operand::from(b).source)
+                self.is_named(a.source.into()) && self.is_named(b.source.into())
             }
             Command::Output(s) => self.is_named(Source::Earlier(s.saturating_sub(64))),
         }
@@ -153,7 +153,7 @@ impl Job {
             let command = command?;
             draft.take(command, at)?;
             if let Command::End = command {
-                // Nothing may stand behind END.
+                // END is the last command: whatever stands behind it is out of order, whether or not it can be read.
                 return match commands.next() {
                     None => Ok(draft.finish()),
                     Some((behind, _)) => Err(Fault::OutOfOrder(behind)),

@@ -1,11 +1,11 @@
 // The values of a job's graph for given samples.
-ghost use Rattle.std.specs.Prelude.{◌≡◌, ℕ, ◌^◌, ◌<◌, ◌≤◌, true, map, length, ℤ, pos, ◌+ℤ◌, ◌*ℤ◌, slice_index, slice_index_or, cond, nat_le, Ok, Err, IsOk, IfOk, IfErr, ◌↔◌};
+ghost use Rattle.std.specs.Prelude.{◌≡◌, ℕ, ◌^◌, ◌<◌, ◌≤◌, true, map, length, ℤ, ◌+ℤ◌, ◌*ℤ◌, slice_index, cond, nat_le, Ok, Err, IsOk, IfOk, IfErr, ◌↔◌};
 ghost use Rattle.faults.specs.declared.Fault.TheVariants.{BufferTooShort, SampleCount};
 ghost use Rattle.std.specs.Int.Signed.{mag};
 ghost use Rattle.words.specs.Cut.{cut_to};
 ghost use Rattle.graphs.specs.Graphs.{count, is_named, good_operand, good_operation};
 ghost use Rattle.sheet.specs.Jobs.{graph_of};
-ghost use Rattle.graphs.specs.Values.{source_value, operand_value, operation_value, room_answer, overwritten, written, operation_values, output_values, ValuesLaw};
+ghost use Rattle.graphs.specs.Values.{source_value, operand_value, operation_value, value_in, room_answer, overwritten, written, operation_values, output_values, ValuesLaw};
 
 use super::{Job, Operand, Operation, Source};
 use faults::Fault;
@@ -21,6 +21,8 @@ struct Sampled<'a> {
 }
 
 impl<'a> Sampled<'a> {
+    ghost use Rattle.sheet.specs.Samples.{sampled_graph, input_count};
+
     fn new(job: &'a Job, samples: &'a [i64]) -> Result<Self, Fault>
         ensures taken { IsOk result ↔ (length samples.now ≡ length (graph_of job.now).inputs) }
         ensures job { IfOk result (λ s. s.job.now ≡ job.now) }
@@ -35,8 +37,8 @@ impl<'a> Sampled<'a> {
     }
 
     fn source_value(&self, values: &[i64], source: Source) -> i64
-        requires { is_named (length (graph_of self.now.job.now).inputs) (length values.now) source ≡ true }
-        ensures { result ≡ source_value (graph_of self.now.job.now).inputs self.now.samples.now (λ o. slice_index_or values.now o (pos 0)) source }
+        requires { is_named (input_count self.now) (length values.now) source ≡ true }
+        ensures { result ≡ source_value (sampled_graph self.now).inputs self.now.samples.now (value_in values.now) source }
     {
         match source {
             Source::Input(i) => {
@@ -49,8 +51,8 @@ impl<'a> Sampled<'a> {
 
     // What a port of so many bits reads.
     fn operand_value(&self, values: &[i64], operand: Operand, port: u8) -> i64
-        requires { good_operand (length (graph_of self.now.job.now).inputs) (length values.now) operand ≡ true }
-        ensures { result ≡ operand_value (graph_of self.now.job.now).inputs self.now.samples.now (λ o. slice_index_or values.now o (pos 0)) operand port }
+        requires { good_operand (input_count self.now) (length values.now) operand ≡ true }
+        ensures { result ≡ operand_value (sampled_graph self.now).inputs self.now.samples.now (value_in values.now) operand port }
     {
         cut(
             self.source_value(values, operand.source),
@@ -60,8 +62,8 @@ impl<'a> Sampled<'a> {
     }
 
     fn operation_value(&self, values: &[i64], operation: Operation) -> i64
-        requires { good_operation (length (graph_of self.now.job.now).inputs) (length values.now) operation ≡ true }
-        ensures { result ≡ operation_value (graph_of self.now.job.now).inputs self.now.samples.now (λ o. slice_index_or values.now o (pos 0)) operation }
+        requires { good_operation (input_count self.now) (length values.now) operation ≡ true }
+        ensures { result ≡ operation_value (sampled_graph self.now).inputs self.now.samples.now (value_in values.now) operation }
     {
         match operation {
             Operation::Add(p, a, b) => {
@@ -79,8 +81,8 @@ impl<'a> Sampled<'a> {
 
     // Writes the value of each operation, in their order.
     fn fill(&self, values: &mut [i64])
-        requires { count (graph_of self.now.job.now) ≤ length values.old }
-        ensures { values.new ≡ overwritten (operation_values (graph_of self.now.job.now) self.now.samples.now) values.old }
+        requires { count (sampled_graph self.now) ≤ length values.old }
+        ensures { values.new ≡ overwritten (operation_values (sampled_graph self.now) self.now.samples.now) values.old }
     {
         // By place: each value is made from those before it in the same buffer.
         for (o, operation) in self.job.operations.iter().enumerate() {
@@ -90,8 +92,8 @@ impl<'a> Sampled<'a> {
 
     // Writes the value of each output, in their order.
     fn fill_outputs(&self, out: &mut [i64])
-        requires { length (graph_of self.now.job.now).outputs ≤ length out.old }
-        ensures { out.new ≡ overwritten (output_values (graph_of self.now.job.now) self.now.samples.now) out.old }
+        requires { length (sampled_graph self.now).outputs ≤ length out.old }
+        ensures { out.new ≡ overwritten (output_values (sampled_graph self.now) self.now.samples.now) out.old }
     {
         let mut values = [0i64; 64];
         self.fill(&mut values);
@@ -119,7 +121,7 @@ fn multiplied(a: i64, b: i64) -> i64
 fn pick(named: &[u8], values: &[i64], out: &mut [i64])
     requires there { (k : ℕ) → k < length named.now → slice_index named.now k < length values.now }
     requires room { length named.now ≤ length out.old }
-    ensures { out.new ≡ overwritten (map (λ o. slice_index_or values.now o (pos 0)) named.now) out.old }
+    ensures { out.new ≡ overwritten (map (value_in values.now) named.now) out.old }
 {
     // By place: after a `zip` of `iter_mut` no proof knows what was written.
     for (k, o) in named.iter().enumerate() {

@@ -54,7 +54,7 @@ first_side k p = nat_le 1 p && nat_le p (widest k)
 abbrev pub second_side : ℕ → ℕ → ℕ → Bool
 second_side k p q = cond (k == 1) ((nat_le 1 q && nat_le q 24) && nat_le q p) (q == 0)
 
--- so many sides does a width or a cell of the kind have
+-- these are no more sides than a width or a cell of the kind has
 abbrev pub has_sides : ℕ → Sides → Bool
 has_sides k s = cond (k == 1) true (s.q == 0)
 

@@ -148,7 +148,7 @@ pub trait Kind {
     fn sides(w: Self::Width) -> Sides
         ensures { result ≡ shape w };
 
-    // What these sides are a width or a cell of, if the kind has so many sides.
+    // The width or the cell with these sides, whether or not it is one of the kind's; none where they are more than the kind has.
     fn from_sides(s: Sides) -> Option<Self::Width>
         ensures { option_map shape result ≡ (if has_sides code s then Some s else None) };
 
@@ -181,22 +181,14 @@ pub trait Kind {
     fn width(s: Sides) -> Option<Self::Width>
         ensures { option_map shape result ≡ (if valid code s then Some s else None) }
     {
-        if Self::kind().has_width(s) {
-            Self::from_sides(s)
-        } else {
-            None
-        }
+        Self::from_sides(s).filter(|_| Self::kind().has_width(s))
     }
 
     // The cell with these sides, if the kind has it.
     fn cell(s: Sides) -> Option<Self::Width>
         ensures { option_map shape result ≡ (if is_cell code s then Some s else None) }
     {
-        if Self::kind().has_cell(s) {
-            Self::from_sides(s)
-        } else {
-            None
-        }
+        Self::from_sides(s).filter(|_| Self::kind().has_cell(s))
     }
 
     fn cell_count() -> usize

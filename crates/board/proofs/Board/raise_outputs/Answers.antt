@@ -8,7 +8,7 @@ loop-o-preserved g c = λ x h.
     let n = get_or c.loop-o.until x 0 in
     let k = c.loop-o.o-index in
     let given = c.outputs-o-items.result.now in
-    let e = c.raise.ensures x (omega arith) ∙ ap (λ l. max n (cond (eqb (get_or given k 0) x) l 0)) c.limit-limit.ensures in
+    let e = c.raise.ensures x (omega arith) ∙ ap (λ l. max n (cond (eqb (get_or given k 0) x) l 0)) (c.into-limit.ensures ∙ c.limit.ensures) in
     output_more (graph_on c.args.self.now).outputs given c.outputs-o-items.ensures k x (graph_on c.args.self.now).limit (get_or c.args.until.now x 0) n (get_or c.raise.new.until x 0) (c.loop-o.invariant x h) e
 
 pub returns : goal.returns

@@ -5,4 +5,4 @@ use Rattle.board.proofs.Searches.{lowest_from_find}
 use Rattle.board.proofs.Board.serving.Goals as goal
 
 pub returns : goal.returns
-returns g c = lowest_from_find (serves_on c.args.self.now (code_of c.args.kind) c.args.number) _ _ _ _ _ refl c.count.ensures c.find.ensures.ran (λ x b q k. (search rules, search rules))
+returns g c = lowest_from_find (serves_on c.args.self.now (code_of c.args.unit.kind) c.args.unit.number) _ _ _ _ _ refl c.count.ensures c.find.ensures.ran (λ x b q k. (search rules, search rules))

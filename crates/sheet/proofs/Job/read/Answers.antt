@@ -1,5 +1,5 @@
 use Rattle.std.proofs.Common.{◌≡◌, ◌≤◌, length, Ok, sym, refl, ap, ◌∙◌, subst, inr, arith}
-use Rattle.std.proofs.lemmas.Result.{err_from_is_err_and}
+use Rattle.graphs.proofs.Exits.{err_from_exit}
 use Rattle.graphs.specs.Commands.{sheet_format}
 use Rattle.graphs.specs.Reading.{whole_graph}
 use Rattle.sheet.specs.Drafts.{sofar, verdict_on}
@@ -20,14 +20,12 @@ loop-at-init c =
 
 pub returns-in_err-command-clause-answer : goal.returns-in_err-command-clause-answer
 returns-in_err-command-clause-answer c =
-    let p = err_from_is_err_and c.from_residual.result c.from_residual.ensures.1 in
-    rw (p.1, p.2)
+    rw (err_from_exit c.from_residual.result c.in_err-command.field-0.0 c.from_residual.ensures.1)
     (inr (read_refused c.args.bytes.now (sofar c.loop-at.draft) c.loop-at.commands refl c.loop-at.invariant.decides c.in-Some.at c.in-Some.command c.next.new.self c.in-Some.ensures.steps c.in_err-command.field-0.0 c.in_err-command.was))
 
 pub returns-in_err-take-clause-answer : goal.returns-in_err-take-clause-answer
 returns-in_err-take-clause-answer c =
-    let p = err_from_is_err_and c.from_residual-in_err-take.result c.from_residual-in_err-take.ensures.1 in
-    rw (p.1, p.2)
+    rw (err_from_exit c.from_residual-in_err-take.result c.in_err-take.field-0.0 c.from_residual-in_err-take.ensures.1)
     (read_told c.args.bytes.now (sofar c.loop-at.draft) c.loop-at.commands refl c.loop-at.invariant.decides c.in-Some.at c.in-Some.command c.next.new.self c.in-Some.ensures.steps c.in_ok-command.command c.in_ok-command.was c.in_err-take.field-0.0 c.in_err-take.ensures)
 
 pub finish-requires : goal.finish-requires

@@ -1,17 +1,8 @@
-use Rattle.std.proofs.Common.{◌≡◌, ◌+◌, ◌∷◌, length, drop, Some, None, Ok, Err, sym, refl, ◌∙◌, subst, arith}
+use Rattle.std.proofs.Common.{◌≡◌, ◌+◌, ◌∷◌, length, drop, Some, Ok, Err, sym, refl, ◌∙◌, subst, arith}
 use Rattle.std.proofs.lemmas.List.{take_rest}
 use Rattle.graphs.specs.Scripts.{Reads}
 use Rattle.graphs.proofs.Scripts.{told_first, told_refusal}
 use Rattle.graphs.proofs.coded.CommandsIterator.next.Goals as goal
-
-pub returns-in_err-get-clause-steps : goal.returns-in_err-get-clause-steps
-returns-in_err-get-clause-steps g c =
-    rw c.from_residual.ensures (subst (λ u. Reads g.C.Coded.format u None u) c.self.view_is (omega (arith, c.in_err-get.ensures.lookup), refl))
-
-pub returns-in_err-byte-clause-steps : goal.returns-in_err-byte-clause-steps
-returns-in_err-byte-clause-steps g c =
-    rw c.from_residual-in_err-byte.ensures
-    (subst (λ u. Reads g.C.Coded.format u None u) c.self.view_is (omega (arith, c.in_ok-get.ensures.lookup, c.in_err-byte.ensures.cases), refl))
 
 pub returns-in-Ok-clause-steps : goal.returns-in-Ok-clause-steps
 returns-in-Ok-clause-steps g c =

@@ -1,9 +1,8 @@
 use Rattle.std.proofs.Common.{inr}
-use Rattle.std.proofs.lemmas.Result.{err_from_is_err_and}
+use Rattle.graphs.proofs.Exits.{err_from_exit}
 use Rattle.sheet.proofs.Steps.{some_cause}
 use Rattle.sheet.proofs.reader.Draft.take.Goals as goal
 
 pub returns-in_err-judge : goal.returns-in_err-judge
 returns-in_err-judge c =
-    let p = err_from_is_err_and c.from_residual.result c.from_residual.ensures.1 in
-    rw (p.1, p.2) (inr (some_cause _ _ c.in_err-judge.ensures))
+    rw (err_from_exit c.from_residual.result c.in_err-judge.field-0.0 c.from_residual.ensures.1) (inr (some_cause _ _ c.in_err-judge.ensures))
