@@ -1,0 +1,6 @@
+-- What was read so far fits into the buffer.
+use Rattle.std.proofs.Common.{◌≤◌, length}
+use Rattle.order.proofs.read_input.Given as goal
+
+abbrev pub invariant-loop : goal.invariant-loop
+invariant-loop g l = l.count ≤ length l.bytes
