@@ -63,19 +63,23 @@ fn show_frame(
     show_outputs(rt, job, &samples)
 }
 
-fn show_values(rt: &(impl Print + AllocGlobal), job: &Job, samples: &[i64]) -> anyhow::Result<()> {
-    let mut values = vec![in rt.alloc(); 0i64; job.operations().len()]?;
-    job.operation_values(samples, &mut values)?;
-    for (o, value) in values.iter().enumerate() {
+// The values stand in buffers of the most that a job can have, so showing them wants no memory.
+fn show_values(rt: &impl Print, job: &Job, samples: &[i64]) -> anyhow::Result<()> {
+    let mut values = [0; 64];
+    let count = job.operation_values(samples, &mut values)?;
+    for (o, value) in values.iter().take(count).enumerate() {
         println!(rt; "    operation {o} = {value}")?;
     }
     Ok(())
 }
 
-fn show_outputs(rt: &(impl Print + AllocGlobal), job: &Job, samples: &[i64]) -> anyhow::Result<()> {
-    let mut outputs = vec![in rt.alloc(); 0i64; job.outputs().len()]?;
-    job.output_values(samples, &mut outputs)?;
-    println!(rt; "    outputs{}", Numbers(&outputs))?;
+fn show_outputs(rt: &impl Print, job: &Job, samples: &[i64]) -> anyhow::Result<()> {
+    let mut outputs = [0; 16];
+    let count = job.output_values(samples, &mut outputs)?;
+    println!(rt;
+        "    outputs{}",
+        Numbers(outputs.get(..count).unwrap_or(&outputs))
+    )?;
     Ok(())
 }
 
