@@ -20,6 +20,8 @@ pub trait Coded: Sized {
 }
 
 // The command of a byte at a position, and how many operands stand behind it.
+// Inlined, as is `next`: a reader then takes a command as it is decoded, and not through memory.
+#[inline(always)]
 fn first_command<C: Coded>(at: usize, byte: u8, behind: &[u8]) -> Result<(C, usize), Fault>
     ensures { AnswersFirst C.format at byte behind.now result }
 {
@@ -63,6 +65,7 @@ impl<'a, C: Coded> Iterator for Commands<'a, C> {
 
     ghost remaining = { λ s. at_most (length s.bytes - s.at) };
 
+    #[inline(always)]
     fn next(&mut self) -> Option<(usize, Result<C, Fault>)> {
         let at = self.at;
         let (byte, behind) = self.bytes.get(at..)?.split_first()?;
