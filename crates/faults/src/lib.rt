@@ -21,8 +21,8 @@ pub enum Fault {
     TooMany(usize),
     OutOfRange(usize),
     NamesNothing(usize),
-    // a price list's maker and its first faulty row
-    FaultyList(Maker, u8),
+    // the number of a price list's `Maker`, and its first faulty row
+    FaultyList(u8, u8),
     // a call's operand, counted from 0
     CallOutOfRange(usize),
     AlreadyThere(usize),
@@ -114,7 +114,7 @@ impl Fault {
             | Fault::NoTime(at)
             | Fault::BufferTooShort(at)
             | Fault::SampleCount(at) => Place::At(at),
-            Fault::FaultyList(maker, row) => Place::Row(maker.into(), row),
+            Fault::FaultyList(maker, row) => Place::Row(maker, row),
             Fault::OutOfMemory => Place::At(0),
         }
     }

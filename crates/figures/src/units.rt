@@ -1,5 +1,5 @@
 // Kinds of units and the lines of faults.
-use faults::{Fault, Maker};
+use faults::Fault;
 use std::process::Abort;
 use std::test::Fail;
 use widths::{Adder, Kind, Multiplier, Register, covers, lies_under};
@@ -61,7 +61,7 @@ fn covering(rt: HostRuntime) {
 fn fault_lines(rt: HostRuntime) -> Result<(), Fail> {
     for (fault, line) in [
         (Fault::CutShort(14), "refused 2 14"),
-        (Fault::FaultyList(Maker::Grain, 0), "refused 7 2 0"),
+        (Fault::FaultyList(2, 0), "refused 7 2 0"),
         (Fault::OutOfMemory, "refused 0 0"),
     ] {
         assert_eq!(rt; format!(in rt.alloc(); "{fault}")?.as_str(), line);

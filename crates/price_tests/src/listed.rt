@@ -1,5 +1,5 @@
 // Formula and table, and what every maker refuses.
-use faults::{Fault, Place};
+use faults::Fault;
 use prices::{Formula, Grain, PriceList, Table, Wait};
 use std::process::Abort;
 use std::test::Fail;
@@ -15,8 +15,7 @@ fn refused<T: Drop>(
     let Err(fault) = answer else {
         return Err(Fail::new("taken"));
     };
-    assert_eq!(rt; fault.number(), 7);
-    assert_eq!(rt; fault.place(), Place::Row(maker, row));
+    assert_eq!(rt; fault, Fault::FaultyList(maker, row));
     Ok(())
 }
 

@@ -28,10 +28,10 @@ impl Formula {
         ensures register_rate { IfOk result (λ list. list.register ≡ register) }
     {
         if !is_rate(adder) {
-            return Err(Fault::FaultyList(Maker::Formula, 0));
+            return Err(Fault::FaultyList(Maker::Formula.into(), 0));
         }
         if !is_rate(register) {
-            return Err(Fault::FaultyList(Maker::Formula, 1));
+            return Err(Fault::FaultyList(Maker::Formula.into(), 1));
         }
         Ok(Formula { adder, register })
     }

@@ -27,7 +27,7 @@ impl<L: Drop> Grain<L> {
         ensures size { IfOk result (λ grain. grain.size ≡ size) }
     {
         if !is_grain(size) {
-            return Err(Fault::FaultyList(Maker::Grain, 0));
+            return Err(Fault::FaultyList(Maker::Grain.into(), 0));
         }
         Ok(Grain { list, size })
     }

@@ -114,7 +114,7 @@ fn judge_rows(first: u8, steps: &[u8; 40]) -> Result<(), Fault>
     ensures taken { OnOk result (Rising steps.now) }
 {
     if let Some(row) = fall_in(steps) {
-        return Err(Fault::FaultyList(Maker::Table, first + row));
+        return Err(Fault::FaultyList(Maker::Table.into(), first + row));
     }
     Ok(())
 }

@@ -26,7 +26,7 @@ impl<L: Drop> Wait<L> {
         ensures steps { IfOk result (λ wait. wait.steps ≡ steps) }
     {
         if steps > MOST_STEPS {
-            return Err(Fault::FaultyList(Maker::Wait, 0));
+            return Err(Fault::FaultyList(Maker::Wait.into(), 0));
         }
         Ok(Wait { list, steps })
     }
