@@ -5,3 +5,5 @@
 mod adjusted;
 #[cfg(test)]
 mod listed;
+#[cfg(test)]
+mod unnamed;

@@ -6,7 +6,7 @@ ghost use Rattle.prices.specs.Lists.{by_kind, formula};
 ghost use Rattle.prices.specs.Refusals.{is_rate, formula_fault};
 ghost use Rattle.prices.specs.FormulaLaw.{formula_sound};
 
-use super::PriceList;
+use super::{PriceList, named};
 use faults::{Fault, Maker};
 use widths::{Kind, Sides, UnitKind};
 
@@ -68,19 +68,17 @@ impl PriceList for Formula {
 
     #[tactic(auto, unfolding(crate::specs::Prices::cell_charge))]
     fn cell_charge<K: Kind>(&self, c: K::Width) -> u64 {
-        if K::is_cell(c) {
-            self.rate_of(K::kind())
-        } else {
-            0
+        match named::<K>() {
+            Some(kind) if K::is_cell(c) => self.rate_of(kind),
+            _ => 0,
         }
     }
 
     #[tactic(auto, using(crate::specs::FormulaLaw::formula_charge, crate::specs::Under::charge_none))]
     fn charge<K: Kind>(&self, w: K::Width) -> u64 {
-        if K::is_width(w) {
-            cells_under(K::sides(w)) * self.rate_of(K::kind())
-        } else {
-            0
+        match named::<K>() {
+            Some(kind) if K::is_width(w) => cells_under(K::sides(w)) * self.rate_of(kind),
+            _ => 0,
         }
     }
 
@@ -90,10 +88,10 @@ impl PriceList for Formula {
             return 0;
         }
         let s = K::sides(w);
-        match K::kind() {
-            UnitKind::Adder => 2,
-            UnitKind::Multiplier => (s.p + s.q).div_ceil(8),
-            UnitKind::Register => 0,
+        match named::<K>() {
+            Some(UnitKind::Adder) => 2,
+            Some(UnitKind::Multiplier) => (s.p + s.q).div_ceil(8),
+            Some(UnitKind::Register) | None => 0,
         }
     }
 }

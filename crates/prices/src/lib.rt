@@ -5,7 +5,8 @@
 // list answers 0. `adjustments_sound` promises what grain and wait keep of the list that they lie over.
 #![tactic(auto)]
 
-ghost use Rattle.std.specs.Prelude.{◌≡◌};
+ghost use Rattle.std.specs.Prelude.{◌≡◌, ◌<◌, MatchOption};
+ghost use Rattle.widths.specs.Kinds.{code_of};
 ghost use Rattle.prices.specs.Prices.{Prices, Sound, cell_charge, charge, latency};
 ghost use Rattle.prices.specs.Lists.{AdjustsSoundly};
 
@@ -18,7 +19,7 @@ pub use formulas::Formula;
 pub use grains::Grain;
 pub use tables::Table;
 pub use waits::Wait;
-use widths::Kind;
+use widths::{Kind, UnitKind};
 
 // A price list; what it means is `prices`, and every such meaning is sound.
 pub trait PriceList {
@@ -43,3 +44,10 @@ pub trait PriceList {
 pub fn adjustments_sound<L: PriceList>(list: &L)
     ensures { AdjustsSoundly (L.PriceList.prices list.now) }
 {}
+
+// The kind by name; none where it is none of those there are, and so has no widths and no cells.
+fn named<K: Kind>() -> Option<UnitKind>
+    ensures { MatchOption result (2 < K.Kind.code) (λ kind. code_of kind ≡ K.Kind.code) }
+{
+    UnitKind::try_from(K::number()).ok()
+}

@@ -6,7 +6,7 @@ ghost use Rattle.prices.specs.Lists.{by_kind, table};
 ghost use Rattle.prices.specs.Refusals.{falls, first_fall, row_fault, table_fault, Charges, Rising};
 ghost use Rattle.prices.specs.TableLaw.{table_sound};
 
-use super::PriceList;
+use super::{PriceList, named};
 use faults::{Fault, Maker};
 use widths::{Kind, UnitKind};
 
@@ -129,19 +129,21 @@ impl PriceList for Table {
     #[tactic(auto, unfolding(crate::specs::Prices::cell_charge))]
     fn cell_charge<K: Kind>(&self, c: K::Width) -> u64 {
         let s = K::sides(c);
-        if K::is_cell(c) && s.q <= 1 {
-            u64::from(self.charges(K::kind())[usize::from(s.p) - 1])
-        } else {
-            0
+        match named::<K>() {
+            Some(kind) if K::is_cell(c) && s.q <= 1 => {
+                u64::from(self.charges(kind)[usize::from(s.p) - 1])
+            },
+            _ => 0,
         }
     }
 
     #[tactic(auto, using(crate::specs::Under::charge_none, crate::proofs::Front::charge_front))]
     fn charge<K: Kind>(&self, w: K::Width) -> u64 {
-        if K::is_width(w) {
-            sum_of(&self.charges(K::kind())[..usize::from(K::sides(w).p)])
-        } else {
-            0
+        match named::<K>() {
+            Some(kind) if K::is_width(w) => {
+                sum_of(&self.charges(kind)[..usize::from(K::sides(w).p)])
+            },
+            _ => 0,
         }
     }
 
@@ -151,10 +153,10 @@ impl PriceList for Table {
             return 0;
         }
         let row = usize::from(K::sides(w).p) - 1;
-        match K::kind() {
-            UnitKind::Adder => self.adder_steps[row],
-            UnitKind::Multiplier => self.multiplier_steps[row],
-            UnitKind::Register => 0,
+        match named::<K>() {
+            Some(UnitKind::Adder) => self.adder_steps[row],
+            Some(UnitKind::Multiplier) => self.multiplier_steps[row],
+            Some(UnitKind::Register) | None => 0,
         }
     }
 }

@@ -1,8 +1,8 @@
 // Kinds of units, their widths and cells.
 //
-// `UnitKind` names the kinds there are, and knows their widths and cells by sides. `Kind` is what a kind brings along as a
-// type: its own type of widths and its own number of cells; `Adder`, `Multiplier` and `Register` are the kinds. `covers` and
-// `lies_under` are one text for all of them.
+// `UnitKind` names the kinds there are, and knows their widths and cells by sides. `Kind` is what a kind answers as a type,
+// with its own type of widths and its own number of cells; `NamedKind` is what a kind by name brings along for that, and
+// `Adder`, `Multiplier` and `Register` are these kinds. `covers` and `lies_under` are one text for all kinds.
 #![tactic(auto)]
 
 ghost use Rattle.std.specs.Prelude.{◌≡◌, ℕ, if◌then◌else◌, Some, None, refl};
@@ -135,6 +135,45 @@ pub trait Kind {
 
     const CELLS: usize;
 
+    // the kind's number, and a width or a cell by its sides
+    ghost code: { ℕ };
+
+    ghost shape: { Self.Width → Sides };
+
+    fn number() -> u8
+        ensures { result ≡ code };
+
+    fn sides(w: Self::Width) -> Sides
+        ensures { result ≡ shape w };
+
+    // Whether some width of the kind has this first side.
+    fn has_first_side(p: u8) -> bool
+        ensures { result ≡ first_side code p };
+
+    fn is_width(w: Self::Width) -> bool
+        ensures { result ≡ valid code (shape w) };
+
+    fn is_cell(c: Self::Width) -> bool
+        ensures { result ≡ is_cell code (shape c) };
+
+    // The width with these sides, if the kind has it.
+    fn width(s: Sides) -> Option<Self::Width>
+        ensures { option_map shape result ≡ (if valid code s then Some s else None) };
+
+    // The cell with these sides, if the kind has it.
+    fn cell(s: Sides) -> Option<Self::Width>
+        ensures { option_map shape result ≡ (if is_cell code s then Some s else None) };
+
+    fn cell_count() -> usize
+        ensures { result ≡ cell_count code };
+}
+
+// A kind that `UnitKind` names. What it answers as a `Kind` follows from its name and its sides, and stands once for all.
+pub trait NamedKind {
+    type Width: Copy;
+
+    const CELLS: usize;
+
     // the kind's number, how many cells it has, and a width or a cell by its sides
     ghost code: { ℕ };
 
@@ -152,52 +191,49 @@ pub trait Kind {
     fn from_sides(s: Sides) -> Option<Self::Width>
         ensures { option_map shape result ≡ (if has_sides code s then Some s else None) };
 
-    fn number() -> u8
-        ensures { result ≡ code }
-    {
-        Self::kind().into()
-    }
-
-    // Whether some width of the kind has this first side.
-    fn has_first_side(p: u8) -> bool
-        ensures { result ≡ first_side code p }
-    {
-        Self::kind().has_first_side(p)
-    }
-
-    fn is_width(w: Self::Width) -> bool
-        ensures { result ≡ valid code (shape w) }
-    {
-        Self::kind().has_width(Self::sides(w))
-    }
-
-    fn is_cell(c: Self::Width) -> bool
-        ensures { result ≡ is_cell code (shape c) }
-    {
-        Self::kind().has_cell(Self::sides(c))
-    }
-
-    // The width with these sides, if the kind has it.
-    fn width(s: Sides) -> Option<Self::Width>
-        ensures { option_map shape result ≡ (if valid code s then Some s else None) }
-    {
-        Self::from_sides(s).filter(|_| Self::kind().has_width(s))
-    }
-
-    // The cell with these sides, if the kind has it.
-    fn cell(s: Sides) -> Option<Self::Width>
-        ensures { option_map shape result ≡ (if is_cell code s then Some s else None) }
-    {
-        Self::from_sides(s).filter(|_| Self::kind().has_cell(s))
-    }
-
-    fn cell_count() -> usize
-        ensures { result ≡ cell_count code }
-    {
-        Self::CELLS
-    }
-
     ghost cells_counted: { CELLS ≡ cell_count code };
+}
+
+impl<K: NamedKind> Kind for K {
+    type Width = K::Width;
+
+    const CELLS: usize = K::CELLS;
+
+    ghost code = { K.NamedKind.code };
+
+    ghost shape = { K.NamedKind.shape };
+
+    fn number() -> u8 {
+        K::kind().into()
+    }
+
+    fn sides(w: K::Width) -> Sides {
+        K::sides(w)
+    }
+
+    fn has_first_side(p: u8) -> bool {
+        K::kind().has_first_side(p)
+    }
+
+    fn is_width(w: K::Width) -> bool {
+        K::kind().has_width(K::sides(w))
+    }
+
+    fn is_cell(c: K::Width) -> bool {
+        K::kind().has_cell(K::sides(c))
+    }
+
+    fn width(s: Sides) -> Option<K::Width> {
+        K::from_sides(s).filter(|_| K::kind().has_width(s))
+    }
+
+    fn cell(s: Sides) -> Option<K::Width> {
+        K::from_sides(s).filter(|_| K::kind().has_cell(s))
+    }
+
+    fn cell_count() -> usize {
+        K::CELLS
+    }
 }
 
 // Whether none of the sides of `w` is smaller than that of `v`.
@@ -235,7 +271,7 @@ impl From<(u8, u8)> for Sides {
 // every number, and there are only these two.
 pub struct Adder;
 
-impl Kind for Adder {
+impl NamedKind for Adder {
     type Width = u8;
 
     const CELLS: usize = 40;
@@ -263,7 +299,7 @@ impl Kind for Adder {
 
 pub struct Multiplier;
 
-impl Kind for Multiplier {
+impl NamedKind for Multiplier {
     type Width = (u8, u8);
 
     const CELLS: usize = 960;
@@ -291,7 +327,7 @@ impl Kind for Multiplier {
 
 pub struct Register;
 
-impl Kind for Register {
+impl NamedKind for Register {
     type Width = u8;
 
     const CELLS: usize = 64;
