@@ -134,7 +134,9 @@ impl<L> Board<L> {
         }
     }
 
-    // How long each value is wanted.
+    // How long each value is wanted. Inlined, so that the table is made only where it is asked for: as the answer of a call it
+    // would be cleared before `life_at` sees that nothing is placed.
+    #[inline]
     fn wanted(&self) -> [u32; 64]
         ensures { (x : ℕ) → x < 64 → slice_index result x ≡ wanted_until (graph_on self.now) (plan_on self.now) x }
     {
@@ -146,8 +148,9 @@ impl<L> Board<L> {
 }
 
 impl<L: PriceList> Board<L> {
-    // The life of a value that is wanted until a step.
+    // The life of a value that is wanted until a step. Inlined, since a placing asks it of every operation.
     #[tactic(auto, unfolding(plans::specs::Plans::last))]
+    #[inline]
     fn life_of(&self, o: usize, until: u32) -> Option<Life>
         requires { until ≡ wanted_until (graph_on self.now) (plan_on self.now) o }
         ensures { result ≡ life_on L.prices self.now o }
@@ -166,18 +169,19 @@ impl<L: PriceList> Board<L> {
     pub(super) fn life_at(&self, o: usize) -> Option<Life>
         ensures { result ≡ life_on L.prices self.now o }
     {
+        self.placed(o)?;
         let until = self.wanted();
         self.life_of(o, *until.get(o)?)
     }
 
-    // The life of each of the 64 values that there can be.
+    // The life of each operation's value; the entries past the last one stay empty.
     fn lives(&self) -> [Option<Life>; 64]
-        ensures { (x : ℕ) → x < 64 → slice_index_or result x None ≡ life_on L.prices self.now x }
+        ensures { (x : ℕ) → x < count (graph_on self.now) → slice_index_or result x None ≡ life_on L.prices self.now x }
     {
         let until = self.wanted();
         let mut lives = [None; 64];
-        for (o, life) in lives.iter_mut().enumerate() {
-            *life = self.life_of(o, until[o]);
+        for o in 0..self.count() {
+            lives[o] = self.life_of(o, until[o]);
         }
         lives
     }

@@ -4,4 +4,4 @@ use Rattle.board.specs.Boards.{life_on}
 use Rattle.board.proofs.Board.lives.Given as goal
 
 abbrev pub invariant-loop-o : goal.invariant-loop-o
-invariant-loop-o g l = (length l.life-items ≡ 64) × ((x : ℕ) → x < l.o → get_or l.life-items x None ≡ life_on g.L.PriceList.prices l.self x)
+invariant-loop-o g l = (length l.lives ≡ 64) × ((x : ℕ) → x < l.o → get_or l.lives x None ≡ life_on g.L.PriceList.prices l.self x)

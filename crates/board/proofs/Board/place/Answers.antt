@@ -7,4 +7,9 @@ use Rattle.board.proofs.Board.place.Goals as goal
 pub returns-in-Some : goal.returns-in-Some
 returns-in-Some g c =
     let same : c.set_placing-in-Some.new.self ≡ c.args.self.now.tables = c.set_placing-in-Some.ensures.tables ∙ ap (λ t. with_entry t c.args.operation None) c.set_placing.ensures.tables ∙ put_back c.args.self.now.tables c.args.operation _ c.in_ok-judge.ensures.free in
-    rw same (search rules)
+    record {
+      answer = search (rules, same);
+      plan = search (rules, same);
+      kept = search rules;
+      refused = search (rules, same);
+    }
