@@ -99,7 +99,7 @@ impl<L: PriceList> Board<L> {
         self.judge(operation, p)?;
         self.tables.set_placing(operation, Some(p));
         if let Some(q) = self.clashing() {
-            self.tables.set_placing(operation, None);
+            self.tables.set_placing(operation, None); // the board is as it was
             return Err(Fault::RegisterBusy(q));
         }
         Ok(())

@@ -3,7 +3,7 @@ ghost use Rattle.widths.specs.Kinds.{sides_of};
 
 use prices::{Formula, Grain, PriceList, Table, Wait};
 use std::test::Fail;
-use widths::{Kind, Sides};
+use widths::*;
 
 struct Shifter;
 
@@ -72,4 +72,21 @@ fn unnamed_kind(rt: HostRuntime) -> Result<(), Fail> {
     }
     assert_eq!(rt; Shifter::cell_count(), 0);
     Ok(())
+}
+
+// With all of `widths` brought in, a kind's sides and its number of cells are those of `Kind`, and nothing else goes by these names.
+#[test]
+fn named_kinds(rt: HostRuntime) {
+    assert_eq!(rt;
+        (
+            Adder::CELLS,
+            Multiplier::CELLS,
+            Register::CELLS,
+            Shifter::CELLS
+        ),
+        (40, 960, 64, 0)
+    );
+    assert_eq!(rt; Adder::sides(7), Sides { p: 7, q: 0 });
+    assert_eq!(rt; Multiplier::sides((7, 3)), Sides { p: 7, q: 3 });
+    assert_eq!(rt; Shifter::sides(7), Register::sides(7));
 }

@@ -1,7 +1,7 @@
 // Kinds of units, their widths and cells.
 //
 // `UnitKind` names the kinds there are, and knows their widths and cells by sides. `Kind` is what a kind answers as a type,
-// with its own type of widths and its own number of cells; `NamedKind` is what a kind by name brings along for that, and
+// with its own type of widths and its own number of cells; `named` says what a kind by name brings along for that, and
 // `Adder`, `Multiplier` and `Register` are these kinds. `covers` and `lies_under` are one text for all kinds.
 #![tactic(auto)]
 
@@ -10,6 +10,9 @@ ghost use Rattle.std.specs.Option.{option_map};
 ghost use Rattle.widths.specs.declared.Sides.{Sides};
 ghost use Rattle.widths.specs.Kinds.{code_of, name_of, unknown_text, Decodes, sides_of, covers, lies_under, widest, first_side, has_sides, valid, is_cell, cell_count};
 
+pub mod named;
+
+use named::NamedKind;
 use std::error::Error;
 use std::fmt;
 
@@ -166,74 +169,6 @@ pub trait Kind {
 
     fn cell_count() -> usize
         ensures { result ≡ cell_count code };
-}
-
-// A kind that `UnitKind` names. What it answers as a `Kind` follows from its name and its sides, and stands once for all.
-pub trait NamedKind {
-    type Width: Copy;
-
-    const CELLS: usize;
-
-    // the kind's number, how many cells it has, and a width or a cell by its sides
-    ghost code: { ℕ };
-
-    ghost CELLS: { ℕ };
-
-    ghost shape: { Self.Width → Sides };
-
-    fn kind() -> UnitKind
-        ensures { code_of result ≡ code };
-
-    fn sides(w: Self::Width) -> Sides
-        ensures { result ≡ shape w };
-
-    // The width or the cell with these sides, whether or not it is one of the kind's; none where they are more than the kind has.
-    fn from_sides(s: Sides) -> Option<Self::Width>
-        ensures { option_map shape result ≡ (if has_sides code s then Some s else None) };
-
-    ghost cells_counted: { CELLS ≡ cell_count code };
-}
-
-impl<K: NamedKind> Kind for K {
-    type Width = K::Width;
-
-    const CELLS: usize = K::CELLS;
-
-    ghost code = { K.NamedKind.code };
-
-    ghost shape = { K.NamedKind.shape };
-
-    fn number() -> u8 {
-        K::kind().into()
-    }
-
-    fn sides(w: K::Width) -> Sides {
-        K::sides(w)
-    }
-
-    fn has_first_side(p: u8) -> bool {
-        K::kind().has_first_side(p)
-    }
-
-    fn is_width(w: K::Width) -> bool {
-        K::kind().has_width(K::sides(w))
-    }
-
-    fn is_cell(c: K::Width) -> bool {
-        K::kind().has_cell(K::sides(c))
-    }
-
-    fn width(s: Sides) -> Option<K::Width> {
-        K::from_sides(s).filter(|_| K::kind().has_width(s))
-    }
-
-    fn cell(s: Sides) -> Option<K::Width> {
-        K::from_sides(s).filter(|_| K::kind().has_cell(s))
-    }
-
-    fn cell_count() -> usize {
-        K::CELLS
-    }
 }
 
 // Whether none of the sides of `w` is smaller than that of `v`.
