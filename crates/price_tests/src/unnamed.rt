@@ -74,18 +74,21 @@ fn unnamed_kind(rt: HostRuntime) -> Result<(), Fail> {
     Ok(())
 }
 
-// With all of `widths` brought in, a kind's sides and its number of cells are those of `Kind`, and nothing else goes by these names.
+// With all of `widths` brought in, a kind's sides and its number of cells are those of `Kind`, and the number serves as a constant.
+const ADDER_CELLS: usize = Adder::CELLS;
+
 #[test]
 fn named_kinds(rt: HostRuntime) {
     assert_eq!(rt;
         (
-            Adder::CELLS,
+            ADDER_CELLS,
             Multiplier::CELLS,
             Register::CELLS,
             Shifter::CELLS
         ),
         (40, 960, 64, 0)
     );
+    assert_eq!(rt; [7u8; <Register as Kind>::CELLS].len(), 64);
     assert_eq!(rt; Adder::sides(7), Sides { p: 7, q: 0 });
     assert_eq!(rt; Multiplier::sides((7, 3)), Sides { p: 7, q: 3 });
     assert_eq!(rt; Shifter::sides(7), Register::sides(7));

@@ -1,8 +1,8 @@
 // Kinds of units, their widths and cells.
 //
 // `UnitKind` names the kinds there are, and knows their widths and cells by sides. `Kind` is what a kind answers as a type,
-// with its own type of widths and its own number of cells; `named` says what a kind by name brings along for that, and
-// `Adder`, `Multiplier` and `Register` are these kinds. `covers` and `lies_under` are one text for all kinds.
+// with its own type of widths and its own number of cells; `Adder`, `Multiplier` and `Register` are the kinds, and as those
+// that have a name they are `NamedKind`s. `covers` and `lies_under` are one text for all kinds.
 #![tactic(auto)]
 
 ghost use Rattle.std.specs.Prelude.{◌≡◌, ℕ, if◌then◌else◌, Some, None, refl};
@@ -10,9 +10,6 @@ ghost use Rattle.std.specs.Option.{option_map};
 ghost use Rattle.widths.specs.declared.Sides.{Sides};
 ghost use Rattle.widths.specs.Kinds.{code_of, name_of, unknown_text, Decodes, sides_of, covers, lies_under, widest, first_side, has_sides, valid, is_cell, cell_count};
 
-pub mod named;
-
-use named::NamedKind;
 use std::error::Error;
 use std::fmt;
 
@@ -132,7 +129,8 @@ impl fmt::Display for UnknownKind {
 
 impl Error for UnknownKind {}
 
-// A kind of unit. A cell has the type of a width: a place in the grid that a width spans.
+// A kind of unit. A cell has the type of a width: a place in the grid that a width spans. A kind by a number that has no name
+// has no widths and no cells.
 pub trait Kind {
     type Width: Copy;
 
@@ -151,13 +149,22 @@ pub trait Kind {
 
     // Whether some width of the kind has this first side.
     fn has_first_side(p: u8) -> bool
-        ensures { result ≡ first_side code p };
+        ensures { result ≡ first_side code p }
+    {
+        UnitKind::try_from(Self::number()).is_ok_and(|kind| kind.has_first_side(p))
+    }
 
     fn is_width(w: Self::Width) -> bool
-        ensures { result ≡ valid code (shape w) };
+        ensures { result ≡ valid code (shape w) }
+    {
+        UnitKind::try_from(Self::number()).is_ok_and(|kind| kind.has_width(Self::sides(w)))
+    }
 
     fn is_cell(c: Self::Width) -> bool
-        ensures { result ≡ is_cell code (shape c) };
+        ensures { result ≡ is_cell code (shape c) }
+    {
+        UnitKind::try_from(Self::number()).is_ok_and(|kind| kind.has_cell(Self::sides(c)))
+    }
 
     // The width with these sides, if the kind has it.
     fn width(s: Sides) -> Option<Self::Width>
@@ -167,8 +174,19 @@ pub trait Kind {
     fn cell(s: Sides) -> Option<Self::Width>
         ensures { option_map shape result ≡ (if is_cell code s then Some s else None) };
 
+    // A contract cannot name the constant of a type parameter, so this ties it to the kind.
     fn cell_count() -> usize
         ensures { result ≡ cell_count code };
+}
+
+// A kind that `UnitKind` names.
+pub trait NamedKind: Kind {
+    fn kind() -> UnitKind
+        ensures { code_of result ≡ Self.Kind.code };
+
+    // The width or the cell with these sides, whether or not it is one of the kind's; none where they are more than the kind has.
+    fn from_sides(s: Sides) -> Option<Self::Width>
+        ensures { option_map Self.Kind.shape result ≡ (if has_sides Self.Kind.code s then Some s else None) };
 }
 
 // Whether none of the sides of `w` is smaller than that of `v`.
@@ -206,25 +224,39 @@ impl From<(u8, u8)> for Sides {
 // every number, and there are only these two.
 pub struct Adder;
 
-impl NamedKind for Adder {
+impl Kind for Adder {
     type Width = u8;
 
     const CELLS: usize = 40;
 
     ghost code = { 0 };
 
-    ghost CELLS = { 40 };
-
     ghost shape = { λ w. sides_of w 0 };
 
-    ghost cells_counted = { refl };
-
-    fn kind() -> UnitKind {
-        UnitKind::Adder
+    fn number() -> u8 {
+        Self::kind().into()
     }
 
     fn sides(w: u8) -> Sides {
         w.into()
+    }
+
+    fn width(s: Sides) -> Option<u8> {
+        Self::from_sides(s).filter(|_| Self::kind().has_width(s))
+    }
+
+    fn cell(s: Sides) -> Option<u8> {
+        Self::from_sides(s).filter(|_| Self::kind().has_cell(s))
+    }
+
+    fn cell_count() -> usize {
+        Self::CELLS
+    }
+}
+
+impl NamedKind for Adder {
+    fn kind() -> UnitKind {
+        UnitKind::Adder
     }
 
     fn from_sides(s: Sides) -> Option<u8> {
@@ -234,25 +266,39 @@ impl NamedKind for Adder {
 
 pub struct Multiplier;
 
-impl NamedKind for Multiplier {
+impl Kind for Multiplier {
     type Width = (u8, u8);
 
     const CELLS: usize = 960;
 
     ghost code = { 1 };
 
-    ghost CELLS = { 960 };
-
     ghost shape = { λ w. sides_of w.0 w.1 };
 
-    ghost cells_counted = { refl };
-
-    fn kind() -> UnitKind {
-        UnitKind::Multiplier
+    fn number() -> u8 {
+        Self::kind().into()
     }
 
     fn sides(w: (u8, u8)) -> Sides {
         w.into()
+    }
+
+    fn width(s: Sides) -> Option<(u8, u8)> {
+        Self::from_sides(s).filter(|_| Self::kind().has_width(s))
+    }
+
+    fn cell(s: Sides) -> Option<(u8, u8)> {
+        Self::from_sides(s).filter(|_| Self::kind().has_cell(s))
+    }
+
+    fn cell_count() -> usize {
+        Self::CELLS
+    }
+}
+
+impl NamedKind for Multiplier {
+    fn kind() -> UnitKind {
+        UnitKind::Multiplier
     }
 
     fn from_sides(s: Sides) -> Option<(u8, u8)> {
@@ -262,25 +308,39 @@ impl NamedKind for Multiplier {
 
 pub struct Register;
 
-impl NamedKind for Register {
+impl Kind for Register {
     type Width = u8;
 
     const CELLS: usize = 64;
 
     ghost code = { 2 };
 
-    ghost CELLS = { 64 };
-
     ghost shape = { λ w. sides_of w 0 };
 
-    ghost cells_counted = { refl };
-
-    fn kind() -> UnitKind {
-        UnitKind::Register
+    fn number() -> u8 {
+        Self::kind().into()
     }
 
     fn sides(w: u8) -> Sides {
         w.into()
+    }
+
+    fn width(s: Sides) -> Option<u8> {
+        Self::from_sides(s).filter(|_| Self::kind().has_width(s))
+    }
+
+    fn cell(s: Sides) -> Option<u8> {
+        Self::from_sides(s).filter(|_| Self::kind().has_cell(s))
+    }
+
+    fn cell_count() -> usize {
+        Self::CELLS
+    }
+}
+
+impl NamedKind for Register {
+    fn kind() -> UnitKind {
+        UnitKind::Register
     }
 
     fn from_sides(s: Sides) -> Option<u8> {
