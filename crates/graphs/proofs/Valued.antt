@@ -5,7 +5,7 @@ use Rattle.std.specs.List.{range_with_len}
 use Rattle.std.proofs.lemmas.Int.{to_z-of_z}
 use Rattle.std.proofs.lemmas.List.{drop_more, set_at, get_or_append_left, length-map, length-take-le, map_more}
 use Rattle.std.proofs.lemmas.List.FromFn.{length-map-range_with_len, map-range_with_len_more, get_or-map-range_with_len}
-use Rattle.std.proofs.lemmas.Bool.{and_parts, ltb-true, leb-true}
+use Rattle.std.proofs.lemmas.Bool.{and_parts, and_from, ltb-true, leb-true, lt-ltb}
 use Rattle.widths.specs.Kinds.{valid, sides_of}
 use Rattle.words.specs.Cut.{cut_to}
 use Rattle.words.proofs.Sizes.{cut_size}
@@ -57,6 +57,24 @@ module _ (G : Graph) (wf : WellFormed G) (xs : List ℤ) where
 
   pub values_law : ValuesLaw G xs
   values_law = record { follows = follows; only = λ V meets o there. only_below V meets (suc o) o (omega arith) there }
+
+-- more operations to name, as many good operations
+named_more : (n o m : ℕ) (x : Source) → o ≤ m → is_named n o x ≡ true → is_named n m x ≡ true
+named_more n o m (Input i) h g = g
+named_more n o m (Earlier e) h g = let l = ltb-true e o g in lt-ltb e m (omega arith)
+
+operand_more : (n o m : ℕ) (x : Operand) → o ≤ m → good_operand n o x ≡ true → good_operand n m x ≡ true
+operand_more n o m x h g = let p = and_parts (leb x.drop 63) _ g in and_from (leb x.drop 63) _ p.0 (named_more n o m x.source h p.1)
+
+pub operation_more : (n o m : ℕ) (x : Operation) → o ≤ m → good_operation n o x ≡ true → good_operation n m x ≡ true
+operation_more n o m (Add p a b) h g =
+    let v = and_parts (valid 0 (sides_of p 0)) _ g in
+    let w = and_parts (good_operand n o a) (good_operand n o b) v.1 in
+    and_from (valid 0 (sides_of p 0)) _ v.0 (and_from _ _ (operand_more n o m a h w.0) (operand_more n o m b h w.1))
+operation_more n o m (Multiply p q a b) h g =
+    let v = and_parts (valid 1 (sides_of p q)) _ g in
+    let w = and_parts (good_operand n o a) (good_operand n o b) v.1 in
+    and_from (valid 1 (sides_of p q)) _ v.0 (and_from _ _ (operand_more n o m a h w.0) (operand_more n o m b h w.1))
 
 -- what the ports of an operation read is small
 pub port_small : (r z : ℤ) (d w n : ℕ) → SFits w64 r → r ≡ cut_to z d w → 1 ≤ w → w ≤ suc n → mag (to_z w64 (of_z w64 r)) < 2 ^ n
